@@ -1,0 +1,10 @@
+pub mod RingLaws
+pub mod RingTactic
+pub mod Sums
+pub mod FieldLaws
+pub mod Tests
+pub mod Lists
+pub mod SymbolLaws
+pub mod OperationLaws
+pub mod ReciprocalLaws
+pub mod KernelLaws

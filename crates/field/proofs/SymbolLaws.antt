@@ -1,0 +1,178 @@
+-- The symbols of a listed p are a field, and `symbol` carries the code's arithmetic over to them.
+use mathlib.Core.Path.{_≡_, refl, sym, ap, subst, _∙_}
+use mathlib.Core.Logic.{_≢_, ⊎-elim}
+use mathlib.Core.Bool.{Bool, true, false}
+use mathlib.Core.HLevel.{hedberg}
+use Prim.Native.Nat.{ℕ, zero, suc, _+_, _-_, _*_, _/_, _%_, _<_}
+use native.Mathlib.Nat.{add-assoc, add-comm, add-zero, mul-comm, mul-assoc, mul-one, mul-add, add-mul, mod-lt, mod-eq-of-lt, mod-add-mod, add-mod-mod, mod-mod, mod-self, zero-mod, div-add-mod, mul-add-mod-self-left}
+use native.Mathlib.Omega.{arith}
+use lib.Dec.{T, eqb, eqb→eq}
+use Rattle.field.specs.Ring.{Ring, RingLaws}
+use Rattle.field.specs.Field.{Field, FieldLaws}
+use Rattle.field.specs.Symbols.{or, listed, Listed, Element, symbol, same-byte, inverseNumber, sumOf, productOf, negativeOf, inverseOf, sameSymbol, symbols}
+use Rattle.field.proofs.FieldLaws.{cancel}
+use Rattle.field.proofs.Tests.{all, all-at, or-cases, or-right}
+
+-- remainders of products
+pub mod-mul : (a b m : ℕ) → a % m * b % m ≡ a * b % m
+mod-mul a b m =
+    sym (ap (λ (x : ℕ). x * b % m) (sym (div-add-mod a m)) ∙ rw (add-mul, mul-assoc m) (mul-add-mod-self-left m (a / m * b) (a % m * b)))
+
+pub mul-mod : (a b m : ℕ) → a * (b % m) % m ≡ a * b % m
+mul-mod a b m = rw (mul-comm a (b % m), mod-mul b a m, mul-comm b a)
+
+-- what holds at each of the ten holds at any listed p
+step : (P : ℕ → Type 0) (p k : ℕ) (b : Bool) → P k → (T b → P p) → T (or (eqb p k) b) → P p
+step P p k b y n t = ⊎-elim (λ (u : T (eqb p k)). subst P (sym (eqb→eq p k u)) y) n (or-cases (eqb p k) b t)
+
+pub at-listed : (P : ℕ → Type 0) → P 3 → P 5 → P 7 → P 11 → P 13 → P 17 → P 19 → P 23 → P 29 → P 31 → (p : ℕ) → T (listed p) → P p
+unfolding listed
+at-listed P p3 p5 p7 p11 p13 p17 p19 p23 p29 p31 p t =
+    step P p 3 _ p3 (step P p 5 _ p5 (step P p 7 _ p7 (step P p 11 _ p11 (step P p 13 _ p13
+    (step P p 17 _ p17 (step P p 19 _ p19 (step P p 23 _ p23 (step P p 29 _ p29 (step P p 31 _ p31 absurd)))))))))
+    t
+
+-- the test brings the bounds
+pub is-listed : {p : ℕ} → listed p ≡ true → Listed p
+is-listed {p} e =
+    let t : T (listed p) = rw e tt in
+    record {
+      listed = t;
+      small = at-listed (λ p. p < 32) (omega arith) (omega arith) (omega arith) (omega arith) (omega arith) (omega arith) (omega arith) (omega arith) (omega arith) (omega arith) p t;
+      large = at-listed (λ p. 2 < p) (omega arith) (omega arith) (omega arith) (omega arith) (omega arith) (omega arith) (omega arith) (omega arith) (omega arith) (omega arith) p t;
+    }
+
+-- numbers to symbols and back
+module _ (p : ℕ) where
+  pub byte-symbol : (n : ℕ) → symbol p n .byte ≡ n % p
+  unfolding symbol
+  byte-symbol n = refl
+
+  pub symbol-byte : (a : Element p) → symbol p (a .byte) ≡ a
+  symbol-byte a = same-byte p (byte-symbol (a .byte) ∙ a .own)
+
+  pub symbol-own : {n : ℕ} → n < p → symbol p n .byte ≡ n
+  symbol-own {n} h = byte-symbol n ∙ mod-eq-of-lt h
+
+  pub symbol-same : (m n : ℕ) → m % p ≡ n % p → symbol p m ≡ symbol p n
+  symbol-same m n e = same-byte p (byte-symbol m ∙ e ∙ sym (byte-symbol n))
+
+  pub symbol-injective : {m n : ℕ} → m < p → n < p → symbol p m ≡ symbol p n → m ≡ n
+  symbol-injective h k e = sym (symbol-own h) ∙ ap (λ (x : Element p). x .byte) e ∙ symbol-own k
+
+  pub symbol-nonzero : {n : ℕ} → n < p → n ≢ 0 → symbol p n ≢ symbol p 0
+  symbol-nonzero h z e = z (symbol-injective h (omega arith) e)
+
+  pub symbol-mod : (n : ℕ) → symbol p (n % p) ≡ symbol p n
+  symbol-mod n = symbol-same (n % p) n (mod-mod n p)
+
+  ruleset mods = (byte-symbol, mod-add-mod, add-mod-mod, mod-mul, mul-mod)
+
+  pub symbol-plus : (a b : ℕ) → symbol p (a + b) ≡ sumOf p (symbol p a) (symbol p b)
+  unfolding sumOf
+  symbol-plus a b = same-byte p (simp mods)
+
+  pub symbol-times : (a b : ℕ) → symbol p (a * b) ≡ productOf p (symbol p a) (symbol p b)
+  unfolding productOf
+  symbol-times a b = same-byte p (simp mods)
+
+  pub symbol-opposite : {a : ℕ} → a < p → symbol p (p - a) ≡ negativeOf p (symbol p a)
+  unfolding negativeOf
+  symbol-opposite h = rw (symbol-own h)
+
+  module _ (some : 0 < p) where
+    byte-less : (a : Element p) → a .byte < p
+    byte-less a = rw (← a .own) (mod-lt (a .byte) some)
+
+    sum-assoc : (a b c : Element p) → sumOf p (sumOf p a b) c ≡ sumOf p a (sumOf p b c)
+    unfolding sumOf
+    sum-assoc a b c = same-byte p (simp (mods, add-assoc))
+
+    sum-comm : (a b : Element p) → sumOf p a b ≡ sumOf p b a
+    unfolding sumOf
+    sum-comm a b = ap (symbol p) (add-comm (a .byte) (b .byte))
+
+    sum-zero : (a : Element p) → sumOf p a (symbol p 0) ≡ a
+    unfolding sumOf
+    sum-zero a = same-byte p (simp (mods, add-zero) (a .own))
+
+    sum-negative : (a : Element p) → sumOf p a (negativeOf p a) ≡ symbol p 0
+    unfolding sumOf negativeOf
+    sum-negative a =
+        let h = byte-less a in
+        let e : a .byte + (p - a .byte) ≡ p = omega arith in
+        same-byte p (simp (mods, e, mod-self, zero-mod))
+
+    product-assoc : (a b c : Element p) → productOf p (productOf p a b) c ≡ productOf p a (productOf p b c)
+    unfolding productOf
+    product-assoc a b c = same-byte p (simp (mods, mul-assoc))
+
+    product-comm : (a b : Element p) → productOf p a b ≡ productOf p b a
+    unfolding productOf
+    product-comm a b = ap (symbol p) (mul-comm (a .byte) (b .byte))
+
+    product-one : (a : Element p) → productOf p a (symbol p 1) ≡ a
+    unfolding productOf
+    product-one a = same-byte p (simp (mods, mul-one) (a .own))
+
+    product-sum : (a b c : Element p) → productOf p a (sumOf p b c) ≡ sumOf p (productOf p a b) (productOf p a c)
+    unfolding productOf sumOf
+    product-sum a b c = same-byte p (simp (mods, mul-add))
+
+    pub symbols-ring : RingLaws (symbols p .ring)
+    symbols-ring =
+        record {
+          isSet = hedberg (sameSymbol p);
+          plus-assoc = sum-assoc;
+          plus-comm = sum-comm;
+          plus-zero = sum-zero;
+          plus-neg = sum-negative;
+          times-assoc = product-assoc;
+          times-comm = product-comm;
+          times-one = product-one;
+          times-plus = product-sum;
+        }
+
+-- each number below p but 0 has one whose product with it leaves 1
+abbrev inverted : ℕ → ℕ → Bool
+inverted p x = or (eqb x 0) (eqb (x * inverseNumber p x % p) 1)
+
+invertible : (p : ℕ) → T (listed p) → T (all p (inverted p))
+invertible = at-listed (λ p. T (all p (inverted p))) tt tt tt tt tt tt tt tt tt tt
+
+module _ {p : ℕ} (l : Listed p) where
+  some : 0 < p
+  some = omega (arith, l .large)
+
+  pub byte-below : (a : Element p) → a .byte < p
+  byte-below = byte-less p some
+
+  pub byte-nonzero : (a : Element p) → a ≢ symbol p 0 → a .byte ≢ 0
+  byte-nonzero a n e = n (same-byte p (e ∙ sym (byte-symbol p 0 ∙ zero-mod p)))
+
+  product-inverse : (a : Element p) → a ≢ symbol p 0 → productOf p a (inverseOf p a) ≡ symbol p 1
+  unfolding productOf inverseOf
+  product-inverse a n =
+      same-byte p (simp (byte-symbol, mul-mod) (eqb→eq _ 1 test ∙ sym (mod-eq-of-lt (omega (arith, l .large)))))
+    where
+      test : T (eqb (a .byte * inverseNumber p (a .byte) % p) 1)
+      test =
+          or-right (eqb (a .byte) 0) _ (all-at p (inverted p) (invertible p (l .listed)) (a .byte) (byte-below a))
+          (λ z. byte-nonzero a n (eqb→eq (a .byte) 0 z))
+
+  one≢zero : symbol p 1 ≢ symbol p 0
+  one≢zero = symbol-nonzero p (omega (arith, l .large)) (λ e. omega arith)
+
+  pub inverse-zero : inverseOf p (symbol p 0) ≡ symbol p 0
+  unfolding inverseOf symbol
+  inverse-zero = at-listed (λ p. inverseOf p (symbol p 0) ≡ symbol p 0) refl refl refl refl refl refl refl refl refl refl p (l .listed)
+
+pub symbols-field : (p : ℕ) → Listed p → FieldLaws (symbols p)
+symbols-field p l = record { ring = symbols-ring p (some l); inverse = product-inverse l; one≢zero = one≢zero l }
+
+-- every nonzero symbol has exactly one inverse
+pub exactly-one-inverse : (p : ℕ) → Listed p → (a : Element p) → a ≢ symbol p 0
+    → (b : Element p) × (productOf p a b ≡ symbol p 1) × ((c : Element p) → productOf p a c ≡ symbol p 1 → c ≡ b)
+exactly-one-inverse p l a n =
+    let e = product-inverse l a n in
+    (inverseOf p a, e, λ c d. cancel (symbols-field p l) a c (inverseOf p a) n (d ∙ sym e))

@@ -1,0 +1,6 @@
+pub mod Ring
+pub mod Field
+pub mod Lists
+pub mod Symbols
+pub mod Operations
+pub mod Kernels

@@ -1,0 +1,90 @@
+-- The ten fields: the numbers below p, one byte each, with sums and products modulo p.
+--   listed p, Listed p  p is one of the ten: as a test, and as a fact that brings p's bounds
+--   Element p           a symbol, that is, a number that is its own remainder modulo p
+--   symbol p n          the symbol of a number
+--   symbols p           the symbols with their operations; a field where p is listed (proofs/SymbolLaws.antt)
+use mathlib.Core.Path.{_≡_, ap}
+use mathlib.Core.Bool.{Bool, true, false}
+use mathlib.Core.List.{List, [], _∷_}
+use mathlib.Core.HLevel.{Σ-prop-path, hedberg}
+use Prim.Native.Nat.{ℕ, zero, suc, _+_, _-_, _*_, _%_, _<_}
+use native.Mathlib.Nat.{mod-mod}
+use native.Mathlib.Decide.{ℕ-discrete}
+use lib.Dec.{T, eqb}
+use Rattle.field.specs.Ring.{Ring}
+use Rattle.field.specs.Field.{Field}
+
+abbrev pub or : Bool → Bool → Bool
+or true b = true
+or false b = b
+
+-- p is among the numbers of a list
+abbrev pub among : List ℕ → ℕ → Bool
+among [] p = false
+among (k ∷ ks) p = or (eqb p k) (among ks p)
+
+-- the ten field sizes
+abbrev pub sizes : List ℕ
+sizes = 3 ∷ 5 ∷ 7 ∷ 11 ∷ 13 ∷ 17 ∷ 19 ∷ 23 ∷ 29 ∷ 31 ∷ []
+
+unfoldable pub listed : ℕ → Bool
+listed = among sizes
+
+pub record Listed (p : ℕ) : Type 0 where
+  pub listed : T (listed p)
+  pub small : p < 32
+  pub large : 2 < p
+
+pub record Element (p : ℕ) : Type 0 where
+  pub byte : ℕ
+  pub own : byte % p ≡ byte
+
+unfoldable pub symbol : (p n : ℕ) → Element p
+symbol p n = record { byte = n % p; own = mod-mod n p }
+
+-- symbols of the same byte are the same
+pub same-byte : (p : ℕ) {a b : Element p} → a .byte ≡ b .byte → a ≡ b
+same-byte p {a} {b} e =
+    ap (λ (u : (n : ℕ) × (n % p ≡ n)). record { byte = u .0; own = u .1 })
+    (Σ-prop-path (λ n. hedberg ℕ-discrete (n % p) n) {u = (a .byte, a .own)} {v = (b .byte, b .own)} e)
+
+abbrev pub choose : Bool → ℕ → ℕ → ℕ
+choose true a b = a
+choose false a b = b
+
+-- the largest number below n that passes the test, or 0
+abbrev pub find : ℕ → (ℕ → Bool) → ℕ
+find zero t = 0
+find (suc n) t = let r = find n t in choose (t n) n r
+
+-- the number below p whose product with a leaves 1, or 0
+abbrev pub inverseNumber : ℕ → ℕ → ℕ
+inverseNumber p a = find p (λ y. eqb (a * y % p) 1)
+
+module _ (p : ℕ) where
+  unfoldable pub sumOf : Element p → Element p → Element p
+  sumOf a b = symbol p (a .byte + b .byte)
+
+  unfoldable pub productOf : Element p → Element p → Element p
+  productOf a b = symbol p (a .byte * b .byte)
+
+  unfoldable pub negativeOf : Element p → Element p
+  negativeOf a = symbol p (p - a .byte)
+
+  unfoldable pub inverseOf : Element p → Element p
+  inverseOf a = symbol p (inverseNumber p (a .byte))
+
+  unfoldable pub sameSymbol : Discrete (Element p)
+  sameSymbol a b = go (ℕ-discrete (a .byte) (b .byte))
+    where
+      go : Dec (a .byte ≡ b .byte) → Dec (a ≡ b)
+      go (yes e) = yes (same-byte p e)
+      go (no n) = no (λ e. n (ap (λ (x : Element p). x .byte) e))
+
+  abbrev pub symbols : Field
+  symbols =
+      record {
+        ring = record { Car = Element p; 𝟘 = symbol p 0; 𝟙 = symbol p 1; plus = sumOf; times = productOf; neg = negativeOf };
+        inv = inverseOf;
+        same? = sameSymbol;
+      }

@@ -1,0 +1,117 @@
+// Symbols: the numbers 0 to p-1, one byte each, where p is one of the ten field sizes.
+ghost use mathlib.Core.Path.{_≡_};
+ghost use Prim.Native.Nat.{_+_, _/_, _%_};
+ghost use Rattle.field.specs.Symbols.{listed, Listed};
+ghost use Rattle.field.specs.Operations.{Operand, Operands, plusBytes, minusBytes, timesBytes, negByte, invByte};
+ghost use Rattle.field.specs.Kernels.{Subtracts, Scales, Reduces, subtracted, scaled};
+
+mod inverses; // inverses.rt: the table of inverses
+
+pub fn is_listed(p: u8) -> bool
+    ensures { λ r. ⌜ r ≡ listed p ⌝ }
+{
+    match p {
+        3 | 5 | 7 | 11 | 13 | 17 | 19 | 23 | 29 | 31 => true,
+        _ => false,
+    }
+}
+
+pub struct Symbol {
+    pub value: u8,
+}
+
+impl Symbol {
+    pub const ZERO: Symbol = Symbol { value: 0 };
+
+    pub const ONE: Symbol = Symbol { value: 1 };
+
+    pub fn sum(self, other: Symbol, p: u8) -> Symbol
+        requires { ⌜ Operands p (self .value) (other .value) ⌝ }
+        ensures { λ r. ⌜ r .value ≡ plusBytes p (self .value) (other .value) ⌝ }
+    {
+        Symbol {
+            value: (self.value + other.value) % p,
+        }
+    }
+
+    pub fn negative(self, p: u8) -> Symbol
+        requires { ⌜ Operand p (self .value) ⌝ }
+        ensures { λ r. ⌜ r .value ≡ negByte p (self .value) ⌝ }
+    {
+        Symbol {
+            value: (p - self.value) % p,
+        }
+    }
+
+    pub fn difference(self, other: Symbol, p: u8) -> Symbol
+        requires { ⌜ Operands p (self .value) (other .value) ⌝ }
+        ensures { λ r. ⌜ r .value ≡ minusBytes p (self .value) (other .value) ⌝ }
+    {
+        Symbol {
+            value: (self.value + (p - other.value)) % p,
+        }
+    }
+
+    pub fn product(self, other: Symbol, p: u8) -> Symbol
+        requires { ⌜ Operands p (self .value) (other .value) ⌝ }
+        ensures { λ r. ⌜ r .value ≡ timesBytes p (self .value) (other .value) ⌝ }
+    {
+        let x = self.value as u16 * other.value as u16;
+        let y = x % (p as u16);
+        Symbol { value: y as u8 }
+    }
+
+    // The inverse of 0 is given as 0.
+    pub fn inverse(self, p: u8) -> Symbol
+        requires { ⌜ Operand p (self .value) ⌝ }
+        ensures { λ r. ⌜ r .value ≡ invByte p (self .value) ⌝ }
+    {
+        let i = p as usize * 32 + self.value as usize;
+        Symbol {
+            value: inverses::INVERSES[i],
+        }
+    }
+}
+
+// A product with this number and a shift make the quotient by p.
+fn reciprocal(p: u8) -> u16
+    requires { ⌜ Listed p ⌝ }
+    ensures { λ r. ⌜ r ≡ 65536 / p + 1 ⌝ }
+{
+    (65536u32 / p as u32 + 1) as u16
+}
+
+// z modulo p, with no division.
+fn reduce(z: u16, p: u8, g: u16) -> u8
+    requires { ⌜ Reduces p g z ⌝ }
+    ensures { λ r. ⌜ r ≡ z % p ⌝ }
+{
+    let q = (z as u32 * g as u32 / 65536) as u16;
+    (z - q * p as u16) as u8
+}
+
+// Takes c times the `len` symbols at `from` off those at `to`.
+pub fn subtract(rows: &mut [u8], to: usize, from: usize, len: usize, c: Symbol, p: u8)
+    requires { ⌜ Subtracts p (c .value) to from len (now rows) ⌝ }
+    ensures { λ _. ⌜ now (rows .exit) ≡ subtracted p (c .value) to from len (now (rows .entry)) ⌝ }
+{
+    let g = reciprocal(p);
+    let m = (p - c.value) as u16;
+    for i in 0..len {
+        let z = rows[to + i] as u16 + m * rows[from + i] as u16;
+        rows[to + i] = reduce(z, p, g);
+    }
+}
+
+// Multiplies the `len` symbols at `at` by c.
+pub fn scale(rows: &mut [u8], at: usize, len: usize, c: Symbol, p: u8)
+    requires { ⌜ Scales p (c .value) at len (now rows) ⌝ }
+    ensures { λ _. ⌜ now (rows .exit) ≡ scaled p (c .value) at len (now (rows .entry)) ⌝ }
+{
+    let g = reciprocal(p);
+    let m = c.value as u16;
+    for i in 0..len {
+        let z = m * rows[at + i] as u16;
+        rows[at + i] = reduce(z, p, g);
+    }
+}
