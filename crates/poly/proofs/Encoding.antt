@@ -1,0 +1,70 @@
+-- What `Encoded` says fixes the number and every byte of the word; and the word while encode writes it.
+use mathlib.Core.Path.{_≡_, sym, _∙_}
+use mathlib.Core.Logic.{inl, inr}
+use mathlib.Core.List.{List}
+use Prim.Native.Nat.{ℕ, _+_, _≤_, _<_}
+use native.Mathlib.Decide.{ℕ-discrete, decLt}
+use native.Mathlib.Omega.{arith}
+use lib.ListN.{length, getD, set, length-set}
+use lib.Seq.{ext-getD, getD-set-same, getD-set-other}
+use borrow.Author.Count.{below-more}
+use Rattle.field.specs.Symbols.{Listed}
+use Rattle.poly.specs.Table.{First}
+use Rattle.poly.specs.Encode.{valueAt, encodeTable, Encoded}
+use Rattle.poly.specs.Buffers.{AllBelow}
+use Rattle.poly.proofs.TableLaws.{first-determined, first-past, listed-passed, below-passed}
+
+module _ {p : ℕ} {points message before : List ℕ} where
+  -- two outcomes of encode for the same arguments are the same
+  pub encode-determined : {after also : List ℕ} {m n : ℕ} → Encoded p points message before after m → Encoded p points message before also n
+      → (m ≡ n) × (after ≡ also)
+  encode-determined {after} {also} {m} {n} a b =
+      (same, ext-getD 0 after also (a .long ∙ sym (b .long)) (λ s h. byte s (ℕ-discrete m 0) (decLt s (length points))))
+    where
+      same : m ≡ n
+      same = first-determined (encodeTable p points message before) m n (a .first) (b .first)
+
+      byte : (s : ℕ) → Dec (m ≡ 0) → Dec (s < length points) → getD after s 0 ≡ getD also s 0
+      byte s (yes e) (yes h) = a .word e s h ∙ sym (b .word (sym same ∙ e) s h)
+      byte s (yes e) (no h) = a .rest s (λ z. omega arith) ∙ sym (b .rest s (λ z. omega arith))
+      byte s (no e) h = a .rest s (λ z. absurd (e z)) ∙ sym (b .rest s (λ z. absurd (e (same ∙ z))))
+
+-- what encode relies on where no refusal applies
+pub record Accepted (p : ℕ) (points message word : List ℕ) : Type 0 where
+  pub size : Listed p
+  pub points-below : AllBelow p points
+  pub message-below : AllBelow p message
+  pub room : length points ≤ length word
+
+pub accepted : {p : ℕ} {points message word : List ℕ} {n : ℕ} → First (encodeTable p points message word) n → n ≡ 0 → Accepted p points message word
+accepted first z =
+    let size = first-past first (λ e. omega arith) in
+    let count = first-past (size .1) (λ e. omega arith) in
+    let degree = first-past (count .1) (λ e. omega arith) in
+    let large = first-past (degree .1) (λ e. omega arith) in
+    let repeated = first-past (large .1) (λ e. omega arith) in
+    let short = first-past (repeated .1) (λ e. omega arith) in
+    record {
+      size = listed-passed (size .0);
+      points-below = below-passed (λ t. large .0 (inl t));
+      message-below = below-passed (λ t. large .0 (inr t));
+      room = let h = short .0 in omega arith;
+    }
+
+-- the word after s places: the first s bytes are values, and the rest is as it was
+pub record Written (p : ℕ) (points message before : List ℕ) (s : ℕ) (after : List ℕ) : Type 0 where
+  pub long : length after ≡ length before
+  pub word : (q : ℕ) → q < s → getD after q 0 ≡ valueAt p message (getD points q 0) .byte
+  pub rest : (q : ℕ) → s ≤ q → getD after q 0 ≡ getD before q 0
+
+pub written-more : {p : ℕ} {points message before after : List ℕ} {s v : ℕ} → Written p points message before s after → s < length before
+    → v ≡ valueAt p message (getD points s 0) .byte → Written p points message before (s + 1) (set after s v)
+written-more {after = after} {s = s} {v = v} w h e =
+    let long = w .long in
+    record {
+      long = length-set after s v ∙ long;
+      word =
+          below-more _ s (λ q l. getD-set-other after s q v 0 (λ z. omega arith) ∙ w .word q l)
+          (getD-set-same after s v 0 (omega arith) ∙ e);
+      rest = λ q l. getD-set-other after s q v 0 (λ z. omega arith) ∙ w .rest q (omega arith);
+    }

@@ -1,0 +1,17 @@
+pub mod Series
+pub mod Constants
+pub mod Bounds
+pub mod Evaluation
+pub mod Division
+pub mod Parts
+pub mod Shift
+pub mod Orders
+pub mod Degrees
+pub mod Places
+pub mod Interpolation
+pub mod Binomials
+pub mod TableLaws
+pub mod Encoding
+pub mod BufferLaws
+pub mod Products
+pub mod Interpolating

@@ -1,0 +1,50 @@
+-- A table fixes the number that it gives; and what is known where a refusal does not apply.
+use mathlib.Core.Path.{_≡_, refl, sym, subst, _∙_}
+use mathlib.Core.Logic.{_⊎_, inl, inr}
+use mathlib.Core.Bool.{Bool, true, false, true≢false}
+use mathlib.Core.List.{List, [], _∷_}
+use Prim.Native.Nat.{ℕ, _<_}
+use native.Mathlib.Decide.{decLt}
+use native.Mathlib.Omega.{arith}
+use lib.Dec.{T}
+use lib.ListN.{getD}
+use Rattle.field.specs.Symbols.{listed, Listed}
+use Rattle.field.proofs.SymbolLaws.{is-listed}
+use Rattle.poly.specs.Table.{Refusal, First, NotListed, TooLarge}
+use Rattle.poly.specs.Buffers.{Decided, AllBelow}
+
+pub first-determined : (table : List Refusal) (m n : ℕ) → First table m → First table n → m ≡ n
+first-determined [] m n e d = e ∙ sym d
+first-determined (x ∷ rest) m n (inl (here, e)) (inl (also, d)) = e ∙ sym d
+first-determined (x ∷ rest) m n (inl (here, e)) (inr (not, f)) = absurd (not here)
+first-determined (x ∷ rest) m n (inr (not, g)) (inl (here, d)) = absurd (not here)
+first-determined (x ∷ rest) m n (inr (not, g)) (inr (nor, f)) = first-determined rest m n g f
+
+-- a table's first refusal, where another number is given: it does not apply, and the rest of the table gives the number
+pub first-past : {Applies Rest : Type 0} {n number : ℕ} → (Applies × (n ≡ number)) ⊎ ((Applies → ⊥) × Rest) → (n ≡ number → ⊥) → (Applies → ⊥) × Rest
+first-past (inl (here, e)) other = absurd (other e)
+first-past (inr (not, f)) other = (not, f)
+
+-- the two answers of a test
+pub decided-true : {P : Type 0} → P → Decided true P
+decided-true holds = record { holds = λ e. holds; fails = λ e. absurd (true≢false e) }
+
+pub decided-false : {P : Type 0} → (P → ⊥) → Decided false P
+decided-false fails = record { holds = λ e. absurd (true≢false (sym e)); fails = λ e. fails }
+
+pub not-listed : {p : ℕ} → listed p ≡ false → NotListed p
+not-listed e l = subst T e (l .listed)
+
+pub listed-passed : {p : ℕ} → (NotListed p → ⊥) → Listed p
+listed-passed {p} n = go (listed p) refl
+  where
+    go : (b : Bool) → listed p ≡ b → Listed p
+    go true e = is-listed e
+    go false e = absurd (n (not-listed e))
+
+pub below-passed : {p : ℕ} {xs : List ℕ} → (TooLarge p xs → ⊥) → AllBelow p xs
+below-passed {p} {xs} n i h = go (decLt (getD xs i 0) p)
+  where
+    go : Dec (getD xs i 0 < p) → getD xs i 0 < p
+    go (yes l) = l
+    go (no g) = absurd (n (record { place = i; inside = h; large = omega arith }))

@@ -1,0 +1,73 @@
+-- `value_at` meets its contract: the sum is the value of the coefficients from i on. Assumes nothing.
+use mathlib.Core.Path.{_≡_, sym, _∙_}
+use Prim.Native.Nat.{_≤_, _-_}
+use lib.ListN.{length}
+use borrow.Author.Needs.{needs}
+use Rattle.field.proofs.SymbolLaws.{byte-below}
+use Rattle.field.proofs.OperationLaws.{timesBytes-below}
+use Rattle.poly.proofs.BufferLaws.{horner, horner-none, horner-more, horner-all}
+use Rattle.poly.proofs.value_at.Statement.{statement}
+use Rattle.poly.proofs.value_at.Tie as tie
+
+abbrev Inv-loop : tie.InvT-loop
+Inv-loop coefficients a p x sum₀ i₀ sum i = (i ≤ length coefficients) × (sum .value ≡ horner p coefficients a i .byte)
+
+abbrev μ-loop : tie.MeasureT-loop
+μ-loop coefficients a p x sum₀ i₀ sum i = i
+
+loop-holds : tie.Need-loop-holds Inv-loop μ-loop
+loop-holds c =
+    let s = c .before .args in
+    (search needs, sym (horner-none (s .p) (s .coefficients .now) (s .a)))
+
+sub-i : tie.Need-sub-i Inv-loop μ-loop
+sub-i c = search needs
+
+shared-slice-read-t10 : tie.Need-shared-slice-read-t10 Inv-loop μ-loop
+shared-slice-read-t10 c = search needs
+
+product-requires : tie.Need-product-requires Inv-loop μ-loop
+product-requires c κs =
+    let l = c .before .before in
+    let s = l .before .before in
+    record { size = s .pre .size; left = s .pre .point; right = rw (l .loop .inv .1) (byte-below (s .pre .size) (horner (s .args .p) (s .args .coefficients .now) (s .args .a) (l .loop .i))) }
+
+sum-requires : tie.Need-sum-requires Inv-loop μ-loop
+sum-requires c κs =
+    let l = c .before .before .before in
+    let s = l .before .before in
+    record {
+      size = s .pre .size;
+      left = s .pre .below (l .loop .i - 1) (search needs);
+      right = rw (c .product .ensures) (timesBytes-below (s .pre .size) (s .args .a) (l .loop .sum .value));
+    }
+
+loop-less : tie.Need-loop-less Inv-loop μ-loop
+loop-less c = search needs
+
+loop-again : tie.Need-loop-again Inv-loop μ-loop
+loop-again c =
+    let l = c .before .before .before .before in
+    let s = l .before .before .args in
+    (search needs, c .sum .ensures ∙ rw (c .before .product .ensures, l .loop .inv .1) (horner-more (s .p) (s .coefficients .now) (s .a) (l .loop .i) (search needs) (search needs)))
+
+returns : tie.Need-returns Inv-loop μ-loop
+returns c =
+    let s = c .before .before .before .args in
+    let z : c .before .loop .i ≡ 0 = search needs in
+    c .before .loop .inv .1 ∙ rw (z, horner-all (s .p) (s .coefficients .now) (s .a))
+
+pub value-at-spec : {M : Type 1} → statement M
+value-at-spec =
+    tie.close
+    (tie.spec
+    Inv-loop
+    μ-loop
+    loop-holds
+    sub-i
+    shared-slice-read-t10
+    product-requires
+    sum-requires
+    loop-less
+    loop-again
+    returns)

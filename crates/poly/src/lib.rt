@@ -1,0 +1,195 @@
+// Polynomials in x in lent bytes, lowest power first, and the job encode.
+ghost use mathlib.Core.Path.{_≡_};
+ghost use Prim.Native.Nat.{_+_, _≤_, min};
+ghost use lib.ListN.{length};
+ghost use Rattle.poly.specs.Table.{First, TooLarge, Repeated};
+ghost use Rattle.poly.specs.Encode.{Encoded, encodeTable, valueAt};
+ghost use Rattle.poly.specs.Buffers.{Decided, Coefficients, Among, Factors, productFrom, Product, Halves, excessOf, Places, Interpolated};
+use field::Symbol;
+
+// The value at a, by Horner's rule.
+pub fn value_at(coefficients: &[u8], a: u8, p: u8) -> u8
+    requires { ⌜ Coefficients p a (now coefficients) ⌝ }
+    ensures { λ r. ⌜ r ≡ valueAt p (now (coefficients .entry)) a .byte ⌝ }
+{
+    let x = Symbol { value: a };
+    let mut sum = Symbol::ZERO;
+    let mut i = coefficients.len();
+    while 0 < i {
+        i -= 1;
+        let c = Symbol {
+            value: coefficients[i],
+        };
+        sum = c.sum(x.product(sum, p), p);
+    }
+    sum.value
+}
+
+// Whether a byte is p or more.
+pub fn too_large(xs: &[u8], p: u8) -> bool
+    ensures { λ r. ⌜ Decided r (TooLarge p (now (xs .entry))) ⌝ }
+{
+    let mut i = 0;
+    while i < xs.len() {
+        if p <= xs[i] {
+            return true;
+        }
+        i += 1;
+    }
+    false
+}
+
+// Whether x is among the first `count` bytes.
+fn among(xs: &[u8], count: usize, x: u8) -> bool
+    requires { ⌜ count ≤ length (now xs) ⌝ }
+    ensures { λ r. ⌜ Decided r (Among (now (xs .entry)) count x) ⌝ }
+{
+    let mut i = 0;
+    while i < count {
+        if xs[i] == x {
+            return true;
+        }
+        i += 1;
+    }
+    false
+}
+
+// Whether two bytes are equal.
+pub fn repeated(xs: &[u8]) -> bool
+    ensures { λ r. ⌜ Decided r (Repeated (now (xs .entry))) ⌝ }
+{
+    let mut i = 0;
+    while i < xs.len() {
+        if among(xs, i, xs[i]) {
+            return true;
+        }
+        i += 1;
+    }
+    false
+}
+
+// The first refusal of encode that applies, or 0.
+fn refuse_encode(p: u8, points: &[u8], message: &[u8], word: &[u8]) -> u8
+    ensures { λ r. ⌜ First (encodeTable p (now (points .entry)) (now (message .entry)) (now (word .entry))) r ⌝ }
+{
+    if !field::is_listed(p) {
+        return 1;
+    }
+    let n = points.len();
+    let k = message.len();
+    if n < 3 {
+        return 2;
+    }
+    if (p as usize) < n {
+        return 2;
+    }
+    if k < 2 {
+        return 4;
+    }
+    if n <= k {
+        return 4;
+    }
+    if too_large(points, p) {
+        return 6;
+    }
+    if too_large(message, p) {
+        return 6;
+    }
+    if repeated(points) {
+        return 7;
+    }
+    if word.len() < n {
+        return 9;
+    }
+    0
+}
+
+// Byte s of the word becomes the message's value at point s.
+pub fn encode(p: u8, points: &[u8], message: &[u8], word: &mut [u8]) -> u8
+    ensures { λ r. ⌜ Encoded p (now (points .entry)) (now (message .entry)) (now (word .entry)) (now (word .exit)) r ⌝ }
+{
+    let number = refuse_encode(p, points, message, word);
+    if number != 0 {
+        return number;
+    }
+    let mut s = 0;
+    while s < points.len() {
+        word[s] = value_at(message, points[s], p);
+        s += 1;
+    }
+    0
+}
+
+fn least(a: usize, b: usize) -> usize
+    ensures { λ r. ⌜ r ≡ min a b ⌝ }
+{
+    if a < b { a } else { b }
+}
+
+// The coefficient of x^e in f times the x-polynomial from `at` on.
+fn product_at(f: &[u8], xs: &[u8], at: usize, e: usize, p: u8) -> u8
+    requires { ⌜ Factors p (now f) at (e + 1) (now xs) ⌝ }
+    ensures { λ r. ⌜ r ≡ productFrom p (now (f .entry)) (now (xs .entry)) at e .byte ⌝ }
+{
+    let count = least(f.len(), e + 1);
+    let mut sum = Symbol::ZERO;
+    let mut i = 0;
+    while i < count {
+        let x = Symbol { value: f[i] };
+        let y = Symbol {
+            value: xs[at + (e - i)],
+        };
+        sum = sum.sum(x.product(y, p), p);
+        i += 1;
+    }
+    sum.value
+}
+
+// The x-polynomial in the `len` bytes from `at` on, times f, as far as the bytes go.
+pub fn multiply(xs: &mut [u8], at: usize, len: usize, f: &[u8], p: u8)
+    requires { ⌜ Factors p (now f) at len (now xs) ⌝ }
+    ensures { λ _. ⌜ Product p (now (f .entry)) at len (now (xs .entry)) (now (xs .exit)) ⌝ }
+{
+    // downwards, so that what stands below is still as it was
+    let mut i = len;
+    while 0 < i {
+        i -= 1;
+        xs[at + i] = product_at(f, xs, at, i, p);
+    }
+}
+
+// With h in the first 32 bytes and e in the next 32: the multiple of e by which h is too large at a, where b is wanted.
+fn excess(work: &[u8], a: u8, b: u8, p: u8) -> Symbol
+    requires { ⌜ Halves p a b (now work) ⌝ }
+    ensures { λ r. ⌜ r .value ≡ excessOf p a b (now (work .entry)) ⌝ }
+{
+    let h = Symbol {
+        value: value_at(&work[..32], a, p),
+    };
+    let e = Symbol {
+        value: value_at(&work[32..], a, p),
+    };
+    h.difference(Symbol { value: b }, p)
+        .product(e.inverse(p), p)
+}
+
+// h through the received places in the first 32 bytes and e, the product of x - point, in the next 32, one place after the other:
+// there are at most 31, so each fits.
+pub fn interpolate(points: &[u8], word: &[u8], p: u8) -> [u8; 64]
+    requires { ⌜ Places p (now points) (now word) ⌝ }
+    ensures { λ r. ⌜ Interpolated p (now (points .entry)) (now (word .entry)) (length (now (points .entry))) r ⌝ }
+{
+    let mut work = [0u8; 64];
+    work[32] = 1;
+    let n = points.len();
+    let mut s = 0;
+    while s < n {
+        let a = Symbol { value: points[s] };
+        let c = excess(&work, a.value, word[s], p);
+        field::subtract(&mut work, 0, 32, 32, c, p);
+        let factor = [a.negative(p).value, 1];
+        multiply(&mut work, 32, 32, &factor, p);
+        s += 1;
+    }
+    work
+}
