@@ -1,0 +1,28 @@
+//! The independent second program: the five jobs of document 01, and the program `listing`, written from the
+//! documents alone. It shares no line with the library and goes other ways on purpose: whole numbers and `%`
+//! instead of tables, curves as sorted lists of terms instead of bytes in slots, roots by the method of Roth and
+//! Ruckenstein instead of one shifted buffer. Where both agree, a common slip is unlikely.
+//!
+//! Every job answers any input whatsoever: any lengths, any bytes, any notes.
+
+mod checks;
+mod encode;
+mod interpolation;
+mod list;
+mod slots;
+mod text;
+
+pub mod curve;
+pub mod field;
+pub mod poly;
+pub mod random;
+pub mod rows;
+pub mod sample;
+pub mod setting;
+
+pub use checks::{Refusal, DONE};
+pub use encode::encode;
+pub use interpolation::{finish, start, turn};
+pub use list::{list, roots, WORKING_ROOM};
+pub use setting::{Note, Setting};
+pub use text::listing;
