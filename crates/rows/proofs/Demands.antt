@@ -1,0 +1,279 @@
+-- Demands 2 and 3. At every pause the rows are those that a run from the starting rows left, so what is promised of runs holds of them.
+use mathlib.Core.Path.{_≡_, refl, sym, ap, _∙_}
+use mathlib.Core.Logic.{_⊎_, inl, inr}
+use mathlib.Core.List.{List, [], _∷_, _++_}
+use Prim.Native.Nat.{ℕ, zero, suc, _+_, _-_, _*_, _≤_, _<_, min}
+use native.Mathlib.Nat.{mul-le-mul}
+use native.Mathlib.Omega.{arith}
+use lib.ListN.{length, take}
+use lib.Seq.{getD-take, length-take-le}
+use Rattle.field.specs.Ring.{Ring}
+use Rattle.field.specs.Field.{Field, FieldLaws}
+use Rattle.field.specs.Symbols.{symbols}
+use Rattle.field.proofs.RingLaws.{mul-zero}
+use Rattle.field.proofs.FieldLaws.{no-zero-divisor}
+use Rattle.field.proofs.SymbolLaws.{symbols-field}
+use Rattle.poly.specs.Polynomials.{locator}
+use Rattle.poly.specs.Table.{TooLarge}
+use Rattle.poly.specs.Encode.{symbolsOf}
+use Rattle.poly.proofs.TableLaws.{first-determined}
+use Rattle.poly.proofs.Interpolation.{interpolate}
+use Rattle.poly.proofs.Interpolating.{places-distinct}
+use Rattle.rows.specs.Curves.{Curve, Lead, Smallest}
+use Rattle.rows.specs.Start.{startRow, total, formula}
+use Rattle.rows.specs.Turns.{Outcome, stops, Turn, finished, rises, pauses, updates, halts}
+use Rattle.rows.specs.Runs.{allowed, after, Run, none, Promised}
+use Rattle.rows.specs.Finish.{monic}
+use Rattle.rows.specs.Bytes.{rowsBytes, curveBytes, rowsOf}
+use Rattle.rows.specs.Jobs.{AsLeft, HasTurned, HasHeight, HasFinished, Hands, turnTable, finishTable}
+use Rattle.rows.specs.Work.{Bytes}
+use Rattle.rows.specs.Demands.{Request, ringFor, shapeFor, noteFor, updatesBound, Member, Begun, Driven, started, turned, HandsCurve, Pause}
+use Rattle.rows.specs.declared.Note.{Note}
+use Rattle.rows.specs.declared.Shape.{Shape}
+use Rattle.rows.specs.declared.Started.{Started}
+use Rattle.rows.specs.declared.Turned.{Turned}
+use Rattle.rows.specs.declared.Finished.{Finished}
+use Rattle.rows.proofs.Leads.{lead-unique, lead-light}
+use Rattle.rows.proofs.Crossing.{delay-zero, times-mono}
+use Rattle.rows.proofs.Runs.{run-then, allowed-then}
+use Rattle.rows.proofs.Formula.{formula-is}
+use Rattle.rows.proofs.Places.{holds-bytes}
+use Rattle.rows.proofs.Notes.{GoodNote, good-fine, not-bad}
+use Rattle.rows.proofs.Boxes.{turn-flat, rowsOf-flat, holds-row, holds-flat}
+use Rattle.rows.proofs.Accepted.{Accepted, start-accepted, accepted-note}
+use Rattle.rows.proofs.Passing.{Begins, begins-same, promised, run-generates, run-smallest, run-unique, begins-start, passing-curve-exists}
+
+turn-onward : {F : Field} {u l a r : ℕ} {rows : ℕ → Curve (F .ring)} {o : Outcome F} → Turn F u l a rows r o → r ≤ o .row
+turn-onward (finished h) = omega arith
+turn-onward (rises w h p t) = let k = turn-onward t in omega arith
+turn-onward (pauses w s h p n) = omega arith
+turn-onward (updates w s v d n t) = turn-onward t
+turn-onward (halts w s v d z) = omega arith
+
+none-large : {S : Shape} {xs : List ℕ} → Bytes S xs → TooLarge (S .p) (take (rowsBytes S) xs) → ⊥
+none-large {S} {xs} b t =
+    let e = length-take-le (rowsBytes S) xs (b .room) in
+    let i = t .inside in
+    let k : t .place < rowsBytes S = omega arith in
+    let x = t .large in
+    let y = b .below (t .place) k in
+    omega (arith, getD-take (rowsBytes S) xs (t .place) 0 k)
+
+formula-positive : (n k m l : ℕ) → k < n → 1 ≤ m → 0 < formula n k m l
+unfolding total
+formula-positive n k zero l kn h = absurd (omega arith)
+formula-positive n k (suc m) l kn h =
+    let x : 1 * 1 ≤ (n - k) * total (suc m) (λ r. r * r) = mul-le-mul {n₁ = 1} {m₁ = 1} {n₂ = n - k} {m₂ = total (suc m) (λ r. r * r)} (omega arith) (omega arith) in
+    omega arith
+
+allowed-some : (list : List ℕ) → 0 < allowed list → 0 < length list
+unfolding allowed
+allowed-some [] h = absurd (omega arith)
+allowed-some (a ∷ list) h = omega arith
+
+-- a curve made monic leads with the same term and is as high
+module _ {p : ℕ} (Φ : FieldLaws (symbols p)) {u w s : ℕ} {Q : Curve (symbols p .ring)} (lead : Lead (symbols p .ring) u w s Q) where
+  open Ring (symbols p .ring) using (Car, 𝟘, times as _⊗_)
+
+  infixl 70 _⊗_
+  abbrev x : Car
+  x = Q s (w - u * s)
+
+  abbrev c : Car
+  c = symbols p .inv x
+
+  abbrev P : Curve (symbols p .ring)
+  P = monic (symbols p) u w s Q
+
+  scaled : (j i : ℕ) → P j i ≡ c ⊗ Q j i
+  scaled j i = times-mono (Φ .ring) c 0 Q j i ∙ ap (λ (y : Car). c ⊗ y) (delay-zero (symbols p .ring) (Q j) i)
+
+  scaled-null : (j i : ℕ) → Q j i ≡ 𝟘 → P j i ≡ 𝟘
+  scaled-null j i z = scaled j i ∙ ap (λ (y : Car). c ⊗ y) z ∙ mul-zero (Φ .ring) c
+
+  null-scaled : (j i : ℕ) → P j i ≡ 𝟘 → Q j i ≡ 𝟘
+  null-scaled j i z =
+      let pw = lead .weight in
+      let d : w - u * s ≡ lead .degree = omega arith in
+      let one = Φ .inverse x (λ y. lead .nonzero (ap (Q s) (sym d) ∙ y)) in
+      no-zero-divisor Φ c (Q j i) (λ y. Φ .one≢zero (sym one ∙ ap (λ (t : Car). x ⊗ t) y ∙ mul-zero (Φ .ring) x)) (sym (scaled j i) ∙ z)
+
+  monic-weight : {v t : ℕ} → Lead (symbols p .ring) u v t P → v ≡ w
+  monic-weight q = lead-unique q (record { degree = lead .degree; weight = lead .weight; nonzero = λ z. lead .nonzero (null-scaled s (lead .degree) z); rest = λ j i le f. scaled-null j i (lead .rest j i le f) }) .0
+
+  monic-height : {j : ℕ} → HasHeight p Q j → HasHeight p P j
+  monic-height {j} h = record { above = λ i e k. scaled-null i e (h .above i e k); some = let (e, n) = h .some in (e, λ z. n (null-scaled j e z)) }
+
+-- by how much row r may weigh more than u r and the degree of its coefficient of y^r
+abbrev surplus : Request → ℕ → ℕ
+surplus q r = min r (q .m) * (length (q .points) - q .k)
+
+-- the run that led to a pause
+record Stands (q : Request) (sum : ℕ) (rows : List ℕ) (note : Note) (made : ℕ) : Type 0 where
+  start : ℕ → Curve (ringFor q)
+  begins : Begins (symbols (q .p)) (q .k - 1) (shapeFor q .width) (q .l) (surplus q) (Member q) start
+  list : List ℕ
+  outcome : Outcome (symbols (q .p))
+  run : Run (symbols (q .p)) (q .k - 1) (q .l) list start 1 outcome
+  good : GoodNote (noteFor q (outcome .row))
+  bytes : Bytes (shapeFor q) rows
+  rows-are : rowsOf (shapeFor q) rows ≡ outcome .rows
+  note-is : note ≡ noteFor q (outcome .row)
+  sum-is : sum ≡ allowed list
+  made-is : made ≡ outcome .updates
+
+module _ (q : Request) where
+  abbrev F : Field
+  F = symbols (q .p)
+
+  module _ {before after : List ℕ} {back : Started} (begun : Begun q before after back) where
+    accepted : Accepted (q .p) (q .points) (q .word) (q .k) (q .m) (q .l) before
+    accepted = start-accepted (begun .0 .first) (begun .1)
+
+    started-stands : Stands q 0 after (back .note) 0
+    unfolding allowed
+    started-stands =
+        let Φ = symbols-field (q .p) (accepted .places .size) in
+        let points = places-distinct (accepted .places) in
+        let low = accepted .low in
+        let good = accepted-note accepted in
+        let (h, thr) = interpolate Φ (length (q .points)) (symbolsOf (q .p) (q .points)) (symbolsOf (q .p) (q .word)) points in
+        let b = begins-start Φ points (omega arith) (accepted .degree) (accepted .heights .order) thr in
+        let rows : ℕ → Curve (ringFor q) = startRow (ringFor q) (q .m) (locator (ringFor q) (length (q .points)) (symbolsOf (q .p) (q .points))) h in
+        let holds = begun .0 .rows (begun .1) h thr in
+        record {
+          start = rowsOf (shapeFor q) after;
+          begins = begins-same Φ (λ i k. holds-row (shapeFor q) after rows holds i k (λ j e x. b .fresh i k .height j e (omega arith)) (b .fresh i k .within)) b;
+          list = [];
+          outcome = stops F 0 (rowsOf (shapeFor q) after) 1;
+          run = none;
+          good = good;
+          bytes = holds-bytes (shapeFor q) after rows holds (good-fine good) (rw (begun .0 .rest .long) (accepted .room));
+          rows-are = refl;
+          note-is = begun .0 .note (begun .1);
+          sum-is = refl;
+          made-is = refl;
+        }
+
+    -- the curve of demand 2 exists for every request that start accepts
+    pub curve-exists : (Q : Curve (ringFor q)) × Smallest (ringFor q) (q .k - 1) (Member q) Q × ((P : Curve (ringFor q)) → Smallest (ringFor q) (q .k - 1) (Member q) P → P ≡ Q)
+    curve-exists =
+        let low = accepted .low in
+        passing-curve-exists (symbols-field (q .p) (accepted .places .size)) (places-distinct (accepted .places)) (omega arith) (accepted .degree) (accepted .heights .order)
+
+  module _ {sum : ℕ} {rows : List ℕ} {note : Note} {made : ℕ} (s : Stands q sum rows note made) where
+    abbrev o : Outcome F
+    o = s .outcome
+
+    Φ : FieldLaws F
+    Φ = symbols-field (q .p) (s .good .size)
+
+    promise : Promised F (q .k - 1) (shapeFor q .width) (q .l) (surplus q) (s .start) (s .list) o
+    promise = promised Φ (s .begins) (s .run)
+
+    as-left : AsLeft (shapeFor q) (o .row) rows
+    as-left = record { below = none-large (s .bytes); sound = rw (s .rows-are) (promise .kept .sound) }
+
+    -- the next turn is accepted and goes by the rule: a turn more in the run
+    stands-turned : {a : ℕ} {new : List ℕ} {back : Turned} → HasTurned note a rows new back → (back .number ≡ 0) × Stands q (sum + a) new (back .note) (made + back .updates)
+    stands-turned {a} {new} {back} t = go (rw (s .note-is) at t)
+      where
+        go : HasTurned (noteFor q (o .row)) a rows new back → (back .number ≡ 0) × Stands q (sum + a) new (back .note) (made + back .updates)
+        go t =
+            let room = s .bytes .room in
+            let entry = first-determined (turnTable (noteFor q (o .row)) rows) (t .entry) 0 (t .first) (inr (not-bad (s .good), inr (λ h. omega arith, inr (λ n. n as-left, refl)))) in
+            let g = t .goes entry in
+            let turn : Turn F (q .k - 1) (q .l) a (o .rows) (o .row) (g .outcome) = rw (s .rows-are) at (g .turn) in
+            let run = run-then (s .run) turn in
+            let p = promised Φ (s .begins) run in
+            let flat = turn-flat Φ (promise .kept .sound) turn (rw (s .rows-are) at (rowsOf-flat (shapeFor q) rows)) in
+            let number = p .number in
+            let onward = turn-onward turn in
+            let good = s .good in
+            let sum-is = s .sum-is in
+            let made-is = s .made-is in
+            let long = t .rest .long in (
+              g .number ∙ omega arith,
+              record {
+                start = s .start;
+                begins = s .begins;
+                list = s .list ++ (a ∷ []);
+                outcome = after F o (g .outcome);
+                run = run;
+                good = record { size = good .size; some = good .some; most = good .most; low = good .low; degree = good .degree; heights = good .heights; row = omega arith; last = p .kept .inside };
+                bytes = holds-bytes (shapeFor q) new (g .outcome .rows) (g .rows) (s .bytes .fine) (omega arith);
+                rows-are = holds-flat (shapeFor q) new (g .outcome .rows) (g .rows) flat (p .kept .sound .light);
+                note-is = g .next;
+                sum-is = omega (arith, allowed-then (s .list) a);
+                made-is = omega (arith, g .updates);
+              },
+            )
+
+    row-is : note .r ≡ o .row
+    row-is = ap (λ (x : Note). x .r) (s .note-is)
+
+    bound-is : total (q .l) (λ r. r * surplus q r) ≡ updatesBound q
+    bound-is = formula-is (length (q .points)) (q .k) (q .m) (q .l) (s .good .heights .order)
+
+    stands-finished : updatesBound q ≤ allowed (s .list) → o .row ≡ suc (q .l)
+    stands-finished h =
+        let positive = formula-positive (length (q .points)) (q .k) (q .m) (q .l) (s .good .degree) (s .good .heights .some) in
+        promise .finished (allowed-some (s .list) (omega arith)) (rw bound-is h)
+
+    stands-hands : o .row ≡ suc (q .l) → {before new : List ℕ} {back : Finished} → HasFinished (noteFor q (o .row)) rows before new back → curveBytes (shapeFor q) ≤ length before → HandsCurve q new back
+    stands-hands e {before} {new} {back} f room =
+        record {
+          done = done;
+          Q = Q;
+          smallest = smallest;
+          only = λ P p. run-unique Φ (s .begins) (s .run) e P Q p smallest;
+          bytes = hands .bytes;
+          weight = sym weight;
+          light = rw weight (lead-light (hands .lightest .lead) (shapeFor q .width) (promise .kept .sound .light (hands .row) (hands .lightest .inside)));
+          height = monic-height Φ (hands .lightest .lead) (hands .tall);
+        }
+      where
+        done : back .number ≡ 0
+        done =
+            first-determined (finishTable (noteFor q (o .row)) rows before) (back .number) 0 (f .first)
+            (inr (not-bad (s .good), inr (enough, inr (λ h. omega arith, inr (λ n. n as-left, refl)))))
+          where
+            enough : (length rows < rowsBytes (shapeFor q)) ⊎ (length before < curveBytes (shapeFor q)) → ⊥
+            enough (inl h) = omega (arith, s .bytes .room)
+            enough (inr h) = omega arith
+
+        hands : Hands (shapeFor q) (o .rows) new (back .weight) (back .height)
+        hands = rw (s .rows-are) at (f .curve done)
+
+        Q : Curve (ringFor q)
+        Q = monic F (q .k - 1) (back .weight) (hands .row) (o .rows (hands .row))
+
+        smallest : Smallest (ringFor q) (q .k - 1) (Member q) Q
+        smallest = run-smallest Φ (s .begins) (s .run) e (hands .lightest)
+
+        weight : smallest .weight ≡ back .weight
+        weight = monic-weight Φ (hands .lightest .lead) (smallest .lead)
+
+    stands-pause : Pause q sum rows note made
+    stands-pause =
+        record {
+          accepted = λ a new back t. stands-turned t .0;
+          numbers = s .note-is ∙ ap (noteFor q) (sym row-is);
+          generated = rw (s .rows-are) (run-generates Φ (s .begins) (s .run));
+          leads = λ i h. let k = promise .kept .inside in rw (s .rows-are) (promise .kept .sound .own i (omega (arith, row-is)) (omega (arith, row-is)));
+          bounded = let c = promise .count in let e = s .made-is in omega (arith, bound-is);
+          finished = λ h. row-is ∙ stands-finished (rw (s .sum-is) at h);
+          curve = λ e before new back h room. stands-hands (sym row-is ∙ e) (rw (s .note-is) at h) room;
+        }
+
+  driven-stands : {sum made : ℕ} {rows : List ℕ} {note : Note} → Driven q sum rows note made → Stands q sum rows note made
+  driven-stands (started b) = started-stands b
+  driven-stands (turned a d t) = stands-turned (driven-stands d) t .1
+
+  pub demand-3 : {sum made : ℕ} {rows : List ℕ} {note : Note} → Driven q sum rows note made → Pause q sum rows note made
+  demand-3 d = stands-pause (driven-stands d)
+
+  -- an accepted start, one turn with an allowance of the formula or more, and a finish with room give the curve of demand 2
+  pub demand-2 : {before rows new lent curve : List ℕ} {start : Started} {turn : Turned} {finish : Finished} {allowance : ℕ} → Begun q before rows start → updatesBound q ≤ allowance
+      → HasTurned (start .note) allowance rows new turn → HasFinished (turn .note) new lent curve finish → curveBytes (shapeFor q) ≤ length lent → HandsCurve q curve finish
+  demand-2 {lent = lent} {curve} {finish = finish} {allowance} b le t f room = let p = demand-3 (turned allowance (started b) t) in p .curve (p .finished (omega arith)) lent curve finish f room

@@ -1,0 +1,88 @@
+-- What the entry test asks of bytes and of rows, one slot and one row at a time.
+use mathlib.Core.Path.{_≡_}
+use mathlib.Core.Logic.{inl, inr}
+use mathlib.Core.List.{List}
+use Prim.Native.Nat.{ℕ, suc, _+_, _-_, _*_, _≤_, _<_, max}
+use native.Mathlib.Nat.{mul-le-mul-right}
+use native.Mathlib.Decide.{decLe}
+use native.Mathlib.Omega.{arith}
+use lib.ListN.{length, getD, take}
+use lib.Seq.{getD-take, length-take-le}
+use Rattle.field.specs.Ring.{Ring}
+use Rattle.field.specs.Symbols.{symbol, symbols}
+use Rattle.poly.specs.Table.{TooLarge}
+use Rattle.poly.proofs.TableLaws.{below-passed}
+use Rattle.rows.specs.Curves.{Curve, Height}
+use Rattle.rows.specs.Entry.{Sound}
+use Rattle.rows.specs.Bytes.{slot, curveBytes, rowsBytes, place, rowsOf}
+use Rattle.rows.specs.Work.{Fine, Bytes, ZeroBetween, SoundRow}
+use Rattle.rows.specs.declared.Shape.{Shape}
+use Rattle.rows.proofs.Places.{block-end, slot-inside, in-curve, lift-inside, rowsOf-at, rowsOf-boxed, rowsOf-zero}
+
+-- bytes of which none is too large
+pub bytes-below : {S : Shape} {xs : List ℕ} → Fine S → rowsBytes S ≤ length xs → (TooLarge (S .p) (take (rowsBytes S) xs) → ⊥) → Bytes S xs
+bytes-below {S} {xs} fine room below =
+    record {
+      fine = fine;
+      room = room;
+      below = λ q h.
+          let e = length-take-le (rowsBytes S) xs room in
+          rw (getD-take (rowsBytes S) xs q 0 h) at (below-passed below q (rw e h));
+    }
+
+module _ {S : Shape} (fine : Fine S) (xs : List ℕ) (i : ℕ) {j : ℕ} (h : j ≤ S .l) where
+  abbrev end : ℕ
+  end = i * curveBytes S + j * slot S + slot S
+
+  -- the terms of a slot that would weigh more than the width are its last u j bytes
+  pub slot-light : ZeroBetween xs (end - S .u * j) end → (e : ℕ) → e ≤ S .width → S .width < e + S .u * j → getD xs (place S i j e) 0 ≡ 0
+  slot-light z e k l = z (place S i j e) (omega arith) (omega arith)
+
+  pub light-slot : ((e : ℕ) → e ≤ S .width → S .width < e + S .u * j → getD xs (place S i j e) 0 ≡ 0) → ZeroBetween xs (end - S .u * j) end
+  light-slot z q a b =
+      let low = lift-inside fine h in
+      let e : ℕ = q - (i * curveBytes S + j * slot S) in
+      let p : q ≡ place S i j e = omega arith in
+      rw p (z e (omega arith) (omega arith))
+
+-- no power of y from t on, said of the bytes from slot t on
+module _ {S : Shape} {xs : List ℕ} (b : Bytes S xs) {i : ℕ} (g : i ≤ S .l) (t : ℕ) where
+  pub height-zero : Height (symbols (S .p) .ring) t (rowsOf S xs i) → ZeroBetween xs (i * curveBytes S + t * slot S) (i * curveBytes S + curveBytes S)
+  height-zero tall q a k =
+      let c = in-curve S {q = q - i * curveBytes S} (omega arith) in
+      let e = c .is in
+      let p : q ≡ place S i (c .power) (c .degree) = omega arith in
+      rw p (rowsOf-zero b g (c .low) (c .short) (tall (c .power) (c .degree) (above (c .power) (c .degree) (c .short) (omega arith) (decLe t (c .power)))))
+    where
+      above : (j e : ℕ) → e ≤ S .width → t * slot S ≤ j * slot S + e → Dec (t ≤ j) → t ≤ j
+      above j e h m (yes k) = k
+      above j e h m (no k) = let z = block-end (slot S) {i = j} {k = t} (omega arith) in absurd (omega arith)
+
+  pub zero-height : ZeroBetween xs (i * curveBytes S + t * slot S) (i * curveBytes S + curveBytes S) → Height (symbols (S .p) .ring) t (rowsOf S xs i)
+  zero-height z j e h = go (decLe j (S .l)) (decLe e (S .width))
+    where
+      go : Dec (j ≤ S .l) → Dec (e ≤ S .width) → rowsOf S xs i j e ≡ symbol (S .p) 0
+      go (yes k) (yes m) =
+          let a = mul-le-mul-right (slot S) h in
+          let d = slot-inside S k m in
+          rw (rowsOf-at S xs g k m, z (place S i j e) (omega arith) (omega arith))
+      go (yes k) (no m) = rowsOf-boxed S xs i j e (inr (inr (omega arith)))
+      go (no k) m = rowsOf-boxed S xs i j e (inr (inl (omega arith)))
+
+module _ {R : Ring} {u W l r : ℕ} {rows : ℕ → Curve R} where
+  pub sound-row : Sound R u W l r rows → (i : ℕ) → i ≤ l → SoundRow R u W r i (rows i)
+  sound-row s i h = record { light = s .light i h; nonzero = s .nonzero i h; height = height (decLe i r); own = s .own i h }
+    where
+      height : Dec (i ≤ r) → Height R (suc (max i r)) (rows i)
+      height (yes k) j e m = s .low i h k j e (omega arith)
+      height (no k) j e m = s .high i h (omega arith) j e (omega arith)
+
+  pub row-sound : ((i : ℕ) → i ≤ l → SoundRow R u W r i (rows i)) → Sound R u W l r rows
+  row-sound s =
+      record {
+        light = λ i h. s i h .light;
+        nonzero = λ i h. s i h .nonzero;
+        low = λ i h k j e m. s i h .height j e (omega arith);
+        high = λ i h k j e m. s i h .height j e (omega arith);
+        own = λ i h. s i h .own;
+      }

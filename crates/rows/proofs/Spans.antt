@@ -1,0 +1,165 @@
+-- Sums of rows, each times a polynomial in x: the rows themselves, sums, multiples, and spans within spans.
+-- A span is used through these lemmas only.
+use mathlib.Core.Path.{_≡_, sym, ap, ap₂, _∙_, fun-ext}
+use mathlib.Core.List.{[], _∷_}
+use Prim.Native.Nat.{ℕ, zero, suc, _+_, _<_}
+use native.Mathlib.Omega.{arith}
+use native.Mathlib.Decide.{ℕ-discrete}
+use Rattle.field.specs.Ring.{Ring, RingLaws, sum}
+use Rattle.field.proofs.RingLaws.{mul-zero, zero-mul, one-mul, mul-assoc, mul-add, add-mul}
+use Rattle.field.proofs.RingTactic.{ring}
+use Rattle.field.proofs.Sums.{sum-zero, sum-suc, sum-cong, sum-null, sum-add, sum-single}
+use Rattle.poly.specs.Polynomials.{Seq, Series, addS, negS, mulS, scaleS, zeroS, oneS, Below}
+use Rattle.poly.proofs.Series.{series, readings, zeroS-at}
+use Rattle.poly.proofs.Constants.{const-one}
+use Rattle.poly.proofs.Bounds.{below-add, below-mul, below-const}
+use Rattle.rows.specs.Curves.{Curve, times, Span, Same}
+use Rattle.rows.specs.Turns.{put, mono, cross}
+use Rattle.rows.proofs.Put.{put-same, put-other}
+use Rattle.rows.proofs.Crossing.{delay, delay-zero, mono-below, times-mono, cross-at}
+
+module _ (R : Ring) (n : ℕ) where
+  pub same-refl : (rows : ℕ → Curve R) → Same R n rows rows
+  same-refl rows Q = (λ x. x, λ x. x)
+
+  pub same-trans : (rows new newer : ℕ → Curve R) → Same R n rows new → Same R n new newer → Same R n rows newer
+  same-trans rows new newer p q Q = (λ x. q Q .0 (p Q .0 x), λ x. p Q .1 (q Q .1 x))
+
+module _ {R : Ring} (L : RingLaws R) where
+  open Ring R using (Car, 𝟙, plus as _⊕_, times as _⊗_, neg as ⊖_)
+  open Ring (Series (Series R)) using (plus as _⊞_, neg as ⊟_, 𝟘 as 𝟘₂)
+
+  infixl 65 _⊕_ _⊞_
+  infixl 70 _⊗_
+  infix 75 ⊖_ ⊟_
+  -- curves are a module over the polynomials in x
+  times-sum : (p q : Seq R) (Q : Curve R) → times R (addS R p q) Q ≡ times R p Q ⊞ times R q Q
+  unfolding scaleS addS
+  times-sum p q Q = fun-ext (λ j. add-mul (series L) p q (Q j))
+
+  times-times : (p q : Seq R) (Q : Curve R) → times R (mulS R p q) Q ≡ times R p (times R q Q)
+  unfolding scaleS
+  times-times p q Q = fun-ext (λ j. mul-assoc (series L) p q (Q j))
+
+  times-plus : (p : Seq R) (P Q : Curve R) → times R p (P ⊞ Q) ≡ times R p P ⊞ times R p Q
+  unfolding scaleS addS
+  times-plus p P Q = fun-ext (λ j. mul-add (series L) p (P j) (Q j))
+
+  times-one : (Q : Curve R) → times R (oneS R) Q ≡ Q
+  unfolding scaleS
+  times-one Q = fun-ext (λ j. one-mul (series L) (Q j))
+
+  pub times-zero : (Q : Curve R) → times R (zeroS R) Q ≡ 𝟘₂
+  unfolding scaleS zeroS
+  times-zero Q = fun-ext (λ j. zero-mul (series L) (Q j))
+
+  times-null : (p : Seq R) → times R p 𝟘₂ ≡ 𝟘₂
+  unfolding scaleS zeroS
+  times-null p = fun-ext (λ j. mul-zero (series L) p)
+
+  times-over : (p : Seq R) (n : ℕ) (f : ℕ → Curve R) → times R p (sum (Series (Series R)) n f) ≡ sum (Series (Series R)) n (λ i. times R p (f i))
+  times-over p zero f = rw (sum-zero (Series (Series R)) f, sum-zero (Series (Series R)) (λ i. times R p (f i))) (times-null p)
+  times-over p (suc n) f =
+      rw (sum-suc (Series (Series R)) n f, sum-suc (Series (Series R)) n (λ i. times R p (f i)), times-plus p (sum (Series (Series R)) n f) (f n), times-over p n f)
+
+  module _ {n : ℕ} {rows : ℕ → Curve R} where
+    pub span-zero : Span R n rows 𝟘₂
+    span-zero =
+        record {
+          factor = λ i. zeroS R;
+          finite = λ i. (0, λ k l. zeroS-at R k);
+          is = sym (sum-null (series (series L)) n (λ i. times R (zeroS R) (rows i)) (λ i l. times-zero (rows i)));
+        }
+
+    pub span-add : {P Q : Curve R} → Span R n rows P → Span R n rows Q → Span R n rows (P ⊞ Q)
+    span-add p q =
+        record {
+          factor = λ i. addS R (p .factor i) (q .factor i);
+          finite = λ i.
+              let a = p .finite i in
+              let b = q .finite i in
+              (a .0 + b .0, below-add L {N = a .0 + b .0} {f = p .factor i} {g = q .factor i} (λ x y. a .1 x (omega arith)) (λ x y. b .1 x (omega arith)));
+          is =
+              ap₂ _⊞_ (p .is) (q .is)
+              ∙ sym
+              (sum-cong (series (series L)) n (λ i. times R (addS R (p .factor i) (q .factor i)) (rows i)) (λ i. times R (p .factor i) (rows i) ⊞ times R (q .factor i) (rows i)) (λ i l. times-sum (p .factor i) (q .factor i) (rows i))
+              ∙ sum-add (series (series L)) n (λ i. times R (p .factor i) (rows i)) (λ i. times R (q .factor i) (rows i)));
+        }
+
+    pub span-times : (N : ℕ) (f : Seq R) {P : Curve R} → Below R N f → Span R n rows P → Span R n rows (times R f P)
+    span-times N f h p =
+        record {
+          factor = λ i. mulS R f (p .factor i);
+          finite = λ i. (N + p .finite i .0, below-mul L N (p .finite i .0) f (p .factor i) h (p .finite i .1));
+          is =
+              ap (times R f) (p .is)
+              ∙ times-over f n (λ i. times R (p .factor i) (rows i))
+              ∙ sym (sum-cong (series (series L)) n (λ i. times R (mulS R f (p .factor i)) (rows i)) (λ i. times R f (times R (p .factor i) (rows i))) (λ i l. times-times f (p .factor i) (rows i)));
+        }
+
+    pub span-neg : {Q : Curve R} → Span R n rows Q → Span R n rows (⊟ Q)
+    unfolding negS
+    span-neg {Q} q = rw is (span-times 1 (mono R (⊖ 𝟙) 0) (mono-below L (⊖ 𝟙) 0) q)
+      where
+        at : (j i : ℕ) → ⊖ (Q j i) ≡ times R (mono R (⊖ 𝟙) 0) Q j i
+        at j i = rw (times-mono L (⊖ 𝟙) 0 Q j i, delay-zero R (Q j) i) (ring L (Q j i ∷ []) (search readings depth 25) tt)
+
+        is : ⊟ Q ≡ times R (mono R (⊖ 𝟙) 0) Q
+        is = fun-ext (λ j. fun-ext (at j))
+
+    span-sum : (m : ℕ) (f : ℕ → Curve R) → ((i : ℕ) → i < m → Span R n rows (f i)) → Span R n rows (sum (Series (Series R)) m f)
+    span-sum zero f h = rw (sum-zero (Series (Series R)) f) span-zero
+    span-sum (suc m) f h = rw (sum-suc (Series (Series R)) m f) (span-add (span-sum m f (λ i l. h i (omega arith))) (h m (omega arith)))
+
+    -- what is in the span of members is in the span
+    pub span-trans : (m : ℕ) (others : ℕ → Curve R) {Q : Curve R} → ((i : ℕ) → i < m → Span R n rows (others i)) → Span R m others Q → Span R n rows Q
+    span-trans m others h q = rw (q .is) (span-sum m (λ i. times R (q .factor i) (others i)) (λ i l. span-times (q .finite i .0) (q .factor i) (q .finite i .1) (h i l)))
+
+    pub span-row : (k : ℕ) → k < n → Span R n rows (rows k)
+    span-row k l =
+        record {
+          factor = put k (oneS R) (λ i. zeroS R);
+          finite = λ i. go i (ℕ-discrete i k);
+          is =
+              sym
+              (sum-single (series (series L)) n k (λ i. times R (put k (oneS R) (λ j. zeroS R) i) (rows i)) l (λ i m x. rw (put-other k (oneS R) (λ j. zeroS R) i x) (times-zero (rows i)))
+              ∙ rw (put-same k (oneS R) (λ j. zeroS R)) (times-one (rows k)));
+        }
+      where
+        go : (i : ℕ) → Dec (i ≡ k) → (N : ℕ) × Below R N (put k (oneS R) (λ j. zeroS R) i)
+        go i (yes e) = rw (e, put-same k (oneS R) (λ j. zeroS R), ← const-one L) (1, below-const L 𝟙)
+        go i (no e) = rw (put-other k (oneS R) (λ j. zeroS R) i e) (0, λ x y. zeroS-at R x)
+
+    pub span-cross : (a : ℕ) {P : Curve R} (c : Car) (b : ℕ) {Q : Curve R} → Span R n rows P → Span R n rows Q → Span R n rows (cross R a P c b Q)
+    unfolding cross
+    span-cross a c b p q = span-add (span-times (suc a) (mono R 𝟙 a) (mono-below L 𝟙 a) p) (span-times (suc b) (mono R (⊖ c) b) (mono-below L (⊖ c) b) q)
+
+    -- P from P - c x^b Q and Q
+    pub span-uncross-left : (P : Curve R) (c : Car) (b : ℕ) (Q : Curve R) → Span R n rows (cross R 0 P c b Q) → Span R n rows Q → Span R n rows P
+    unfolding addS
+    span-uncross-left P c b Q p q = rw is (span-add p (span-times (suc b) (mono R c b) (mono-below L c b) q))
+      where
+        at : (j i : ℕ) → P j i ≡ cross R 0 P c b Q j i ⊕ times R (mono R c b) Q j i
+        at j i =
+            rw (cross-at L 0 P c b Q j i, times-mono L c b Q j i, delay-zero R (P j) i)
+            (ring L (P j i ∷ c ∷ delay R b (Q j) i ∷ []) (search readings depth 25) tt)
+
+        is : P ≡ cross R 0 P c b Q ⊞ times R (mono R c b) Q
+        is = fun-ext (λ j. fun-ext (at j))
+
+    -- Q from x^a P - c Q and P, where c d = 1
+    pub span-uncross-right : (a : ℕ) (P : Curve R) (c d : Car) (Q : Curve R) → c ⊗ d ≡ 𝟙 → Span R n rows (cross R a P c 0 Q) → Span R n rows P → Span R n rows Q
+    unfolding addS
+    span-uncross-right a P c d Q e p q =
+        rw is (span-add (span-times (suc a) (mono R d a) (mono-below L d a) q) (span-times 1 (mono R (⊖ d) 0) (mono-below L (⊖ d) 0) p))
+      where
+        collect : (x y : Car) → d ⊗ x ⊕ ⊖ d ⊗ (x ⊕ ⊖ (c ⊗ y)) ≡ c ⊗ d ⊗ y
+        collect x y = ring L (c ∷ d ∷ x ∷ y ∷ []) (search readings depth 25) tt
+
+        at : (j i : ℕ) → Q j i ≡ times R (mono R d a) P j i ⊕ times R (mono R (⊖ d) 0) (cross R a P c 0 Q) j i
+        at j i =
+            rw (times-mono L d a P j i, times-mono L (⊖ d) 0 (cross R a P c 0 Q) j i, delay-zero R (cross R a P c 0 Q j) i, cross-at L a P c 0 Q j i, delay-zero R (Q j) i, collect (delay R a (P j) i) (Q j i), e)
+            (sym (one-mul L (Q j i)))
+
+        is : Q ≡ times R (mono R d a) P ⊞ times R (mono R (⊖ d) 0) (cross R a P c 0 Q)
+        is = fun-ext (λ j. fun-ext (at j))

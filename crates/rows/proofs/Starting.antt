@@ -1,0 +1,91 @@
+-- The rows filled by the bytes of an interpolation are those of h and e; and what `HasStarted` says fixes the number, the note and every byte.
+use mathlib.Core.Path.{_≡_, sym, ap, ap₂, _∙_}
+use mathlib.Core.List.{List}
+use Prim.Native.Nat.{ℕ, _<_}
+use native.Mathlib.Decide.{ℕ-discrete, decLt}
+use native.Mathlib.Omega.{arith}
+use lib.ListN.{length, getD, take, drop, length-take, length-drop}
+use lib.Seq.{ext-getD, getD-take, getD-drop}
+use Rattle.field.specs.Ring.{Ring}
+use Rattle.field.specs.Symbols.{symbols}
+use Rattle.field.proofs.SymbolLaws.{symbols-field}
+use Rattle.poly.specs.Polynomials.{Seq, locator, Through}
+use Rattle.poly.specs.Encode.{symbolsOf}
+use Rattle.poly.specs.Buffers.{Interpolated}
+use Rattle.poly.proofs.TableLaws.{first-determined}
+use Rattle.poly.proofs.BufferLaws.{symbols-are}
+use Rattle.poly.proofs.Degrees.{monic-locator}
+use Rattle.poly.proofs.Interpolation.{interpolate}
+use Rattle.poly.proofs.Interpolating.{places-distinct, interpolated-only}
+use Rattle.rows.specs.Start.{startRow}
+use Rattle.rows.specs.Bytes.{shape, rowsBytes, Holds}
+use Rattle.rows.specs.Jobs.{startTable, HasStarted}
+use Rattle.rows.specs.Filling.{Filled}
+use Rattle.rows.specs.declared.Note.{Note}
+use Rattle.rows.specs.declared.Shape.{Shape}
+use Rattle.rows.specs.declared.Started.{Started}
+use Rattle.rows.proofs.Places.{in-rows}
+use Rattle.rows.proofs.Accepted.{Accepted, start-accepted}
+
+module _ {p : ℕ} {points word : List ℕ} {k m l : ℕ} {rows : List ℕ} (a : Accepted p points word k m l rows) where
+  abbrev R : Ring
+  R = symbols p .ring
+
+  abbrev n : ℕ
+  n = length points
+
+  abbrev S : Shape
+  S = shape p n k m l
+
+  -- the 64 bytes are h and e
+  module _ {work : List ℕ} (t : Interpolated p points word n work) {h : Seq R} (through : Through R n (symbolsOf p points) (symbolsOf p word) h) where
+    few : n < 32
+    few = let c = a .places .count in let s = a .places .size .small in omega arith
+
+    h-is : symbolsOf p (take 32 work) ≡ h
+    h-is =
+        let long = length-take 32 work in
+        let w = t .long in
+        symbols-are p (take 32 work) h (λ i g. through .short i (omega (arith, few)))
+        (λ i g. getD-take 32 work i 0 (omega arith) ∙ t .low i (omega arith) ∙ ap (λ (f : Seq R). f i .byte) (interpolated-only (a .places) t (omega arith) through))
+
+    e-is : symbolsOf p (drop 32 work) ≡ locator R n (symbolsOf p points)
+    e-is =
+        let long = length-drop 32 work in
+        let w = t .long in
+        symbols-are p (drop 32 work) (locator R n (symbolsOf p points))
+        (λ i g. monic-locator (symbols-field p (a .places .size) .ring) n (symbolsOf p points) .rest i (omega (arith, few)))
+        (λ i g. getD-drop 32 work i 0 ∙ t .high i (omega arith))
+
+    pub accepted-rows : (after : List ℕ) → Filled S m work after → Holds S after (startRow R m (locator R n (symbolsOf p points)) h)
+    accepted-rows after f = rw (h-is, e-is) at f
+
+-- two outcomes of start for the same arguments are the same
+module _ {p : ℕ} {points word : List ℕ} {k m l : ℕ} {before : List ℕ} where
+  pub start-determined : {after also : List ℕ} {back other : Started} → HasStarted p points word k m l before after back
+      → HasStarted p points word k m l before also other → (back ≡ other) × (after ≡ also)
+  start-determined {after} {also} {back} {other} f g = go (ℕ-discrete (back .number) 0)
+    where
+      same : back .number ≡ other .number
+      same = first-determined (startTable p points word k m l before) (back .number) (other .number) (f .first) (g .first)
+
+      both : back .note ≡ other .note → back ≡ other
+      both e = ap₂ (λ (x : ℕ) (y : Note). record { number = x; note = y }) same e
+
+      byte : back .number ≡ 0 → (q : ℕ) → Dec (q < rowsBytes (shape p (length points) k m l)) → getD after q 0 ≡ getD also q 0
+      byte z q (no h) = f .rest .same q (omega arith) ∙ sym (g .rest .same q (omega arith))
+      byte z q (yes h) =
+          let a : Accepted p points word k m l before = start-accepted (f .first) z in
+          let P = a .places in
+          let t = interpolate (symbols-field p (P .size)) (length points) (symbolsOf p points) (symbolsOf p word) (places-distinct P) in
+          let r = in-rows (shape p (length points) k m l) h in
+          rw (r .is)
+          (f .rows z (t .0) (t .1) (r .row) (r .power) (r .degree) (r .inside) (r .low) (r .short)
+          ∙ sym (g .rows (sym same ∙ z) (t .0) (t .1) (r .row) (r .power) (r .degree) (r .inside) (r .low) (r .short)))
+
+      go : Dec (back .number ≡ 0) → (back ≡ other) × (after ≡ also)
+      go (yes z) = (both (f .note z ∙ sym (g .note (sym same ∙ z))), ext-getD 0 after also (f .rest .long ∙ sym (g .rest .long)) (λ q h. byte z q (decLt q (rowsBytes (shape p (length points) k m l)))))
+      go (no z) =
+          let x = f .refused z in
+          let y = g .refused (λ e. z (same ∙ e)) in
+          (both (x .0 ∙ sym (y .0)), x .1 ∙ sym (y .1))

@@ -1,0 +1,129 @@
+-- The jobs start, turn and finish: when each refuses, and what it leaves. A refusal leaves every byte as it was.
+--   BadHeights m l         5: m or l out of its range
+--   BadNote note           10: 1, 2, 4 or 5 would apply to the note, or r is outside 1 to l + 1
+--   AsLeft S r xs          the rows are as a turn leaves them; 11 if they are not
+--   HasStarted, HasTurned, HasFinished   what the job hands back and leaves in the lent bytes
+use mathlib.Core.Path.{_≡_}
+use mathlib.Core.Logic.{_⊎_}
+use mathlib.Core.List.{List, [], _∷_}
+use Prim.Native.Nat.{ℕ, zero, suc, _+_, _-_, _*_, _≤_, _<_}
+use lib.ListN.{length, getD, take}
+use Rattle.field.specs.Ring.{Ring}
+use Rattle.field.specs.Symbols.{Listed, Element, symbol, symbols}
+use Rattle.poly.specs.Polynomials.{Seq, locator, Through}
+use Rattle.poly.specs.Table.{Refusal, First, NotListed, BadCount, BadDegree, TooLarge, Repeated, TooShort}
+use Rattle.poly.specs.Encode.{symbolsOf}
+use Rattle.rows.specs.Curves.{Curve, Height}
+use Rattle.rows.specs.Start.{startRow}
+use Rattle.rows.specs.Turns.{Outcome, Turn}
+use Rattle.rows.specs.Entry.{Sound}
+use Rattle.rows.specs.Finish.{Lightest, monic}
+use Rattle.rows.specs.Bytes.{shape, curveBytes, rowsBytes, rowsOf, Holds, HoldsCurve, Untouched}
+use Rattle.rows.specs.declared.Note.{Note}
+use Rattle.rows.specs.declared.Shape.{Shape}
+use Rattle.rows.specs.declared.Started.{Started}
+use Rattle.rows.specs.declared.Turned.{Turned}
+use Rattle.rows.specs.declared.Made.{Made}
+use Rattle.rows.specs.declared.Finished.{Finished}
+
+abbrev pub BadHeights : ℕ → ℕ → Type 0
+BadHeights m l = (m < 1) ⊎ ((4 < m) ⊎ ((l < m) ⊎ (8 < l)))
+
+pub data BadNote (note : Note) : Type 0 where
+  size : NotListed (note .p) → BadNote note
+  count : BadCount (note .p) (note .n) → BadNote note
+  degree : BadDegree (note .n) (note .k) → BadNote note
+  heights : BadHeights (note .m) (note .l) → BadNote note
+  row : (note .r < 1) ⊎ (suc (note .l) < note .r) → BadNote note
+
+abbrev pub shapeOf : Note → Shape
+shapeOf note = shape (note .p) (note .n) (note .k) (note .m) (note .l)
+
+pub record AsLeft (S : Shape) (r : ℕ) (xs : List ℕ) : Type 0 where
+  pub below : TooLarge (S .p) (take (rowsBytes S) xs) → ⊥
+  pub sound : Sound (symbols (S .p) .ring) (S .u) (S .width) (S .l) r (rowsOf S xs)
+
+abbrev pub atRow : Note → ℕ → Note
+atRow note r = record { p = note .p; n = note .n; k = note .k; m = note .m; l = note .l; r = r }
+
+abbrev pub noNote : Note
+noNote = record { p = 0; n = 0; k = 0; m = 0; l = 0; r = 0 }
+
+-- start
+
+abbrev pub startTable : ℕ → List ℕ → List ℕ → ℕ → ℕ → ℕ → List ℕ → List Refusal
+startTable p points word k m l rows =
+    record { number = 1; applies = NotListed p } ∷
+    record { number = 2; applies = BadCount p (length points) } ∷
+    record { number = 3; applies = length word ≡ length points → ⊥ } ∷
+    record { number = 4; applies = BadDegree (length points) k } ∷
+    record { number = 5; applies = BadHeights m l } ∷
+    record { number = 6; applies = TooLarge p points ⊎ TooLarge p word } ∷
+    record { number = 7; applies = Repeated points } ∷
+    record { number = 9; applies = TooShort (rowsBytes (shape p (length points) k m l)) rows } ∷
+    []
+
+pub record HasStarted (p : ℕ) (points word : List ℕ) (k m l : ℕ) (before after : List ℕ) (back : Started) : Type 0 where
+  pub first : First (startTable p points word k m l before) (back .number)
+  pub note : back .number ≡ 0 → back .note ≡ record { p = p; n = length points; k = k; m = m; l = l; r = 1 }
+  pub rows : back .number ≡ 0 → (h : Seq (symbols p .ring)) → Through (symbols p .ring) (length points) (symbolsOf p points) (symbolsOf p word) h
+      → Holds (shape p (length points) k m l) after (startRow (symbols p .ring) m (locator (symbols p .ring) (length points) (symbolsOf p points)) h)
+  pub rest : Untouched (rowsBytes (shape p (length points) k m l)) before after
+  pub refused : (back .number ≡ 0 → ⊥) → (back .note ≡ noNote) × (after ≡ before)
+
+-- turn
+
+abbrev pub turnTable : Note → List ℕ → List Refusal
+turnTable note rows =
+    record { number = 10; applies = BadNote note } ∷
+    record { number = 9; applies = TooShort (rowsBytes (shapeOf note)) rows } ∷
+    record { number = 11; applies = AsLeft (shapeOf note) (note .r) rows → ⊥ } ∷
+    []
+
+-- the turn goes by the rule, and hands over what the rule leaves
+pub record Goes (note : Note) (allowance : ℕ) (before after : List ℕ) (back : Turned) : Type 0 where
+  pub outcome : Outcome (symbols (note .p))
+  pub turn : Turn (symbols (note .p)) (note .k - 1) (note .l) allowance (rowsOf (shapeOf note) before) (note .r) outcome
+  pub number : back .number ≡ outcome .number
+  pub next : back .note ≡ atRow note (outcome .row)
+  pub updates : back .updates ≡ outcome .updates
+  pub rows : Holds (shapeOf note) after (outcome .rows)
+
+pub record HasTurned (note : Note) (allowance : ℕ) (before after : List ℕ) (back : Turned) : Type 0 where
+  pub entry : ℕ
+  pub first : First (turnTable note before) entry
+  pub goes : entry ≡ 0 → Goes note allowance before after back
+  pub rest : Untouched (rowsBytes (shapeOf note)) before after
+  pub refused : (entry ≡ 0 → ⊥) → (back .number ≡ entry) × (back .note ≡ note) × (back .updates ≡ 0) × (after ≡ before)
+
+-- what a turn in place hands back, with the note that it leaves
+abbrev pub withNote : Made → Note → Turned
+withNote made note = record { number = made .number; note = note; updates = made .updates }
+
+-- finish
+
+abbrev pub finishTable : Note → List ℕ → List ℕ → List Refusal
+finishTable note rows curve =
+    record { number = 10; applies = BadNote note } ∷
+    record { number = 9; applies = TooShort (rowsBytes (shapeOf note)) rows ⊎ TooShort (curveBytes (shapeOf note)) curve } ∷
+    record { number = 12; applies = note .r < suc (note .l) } ∷
+    record { number = 11; applies = AsLeft (shapeOf note) (note .r) rows → ⊥ } ∷
+    []
+
+-- a nonzero curve's height
+pub record HasHeight (p : ℕ) (Q : Curve (symbols p .ring)) (j : ℕ) : Type 0 where
+  pub above : Height (symbols p .ring) (suc j) Q
+  pub some : (e : ℕ) × (Q j e ≡ symbols p .ring .𝟘 → ⊥)
+
+-- the lightest row made monic
+pub record Hands (S : Shape) (rows : ℕ → Curve (symbols (S .p) .ring)) (curve : List ℕ) (weight height : ℕ) : Type 0 where
+  pub row : ℕ
+  pub lightest : Lightest (symbols (S .p) .ring) (S .u) (S .l) rows row weight
+  pub bytes : HoldsCurve S curve (monic (symbols (S .p)) (S .u) weight row (rows row))
+  pub tall : HasHeight (S .p) (rows row) height
+
+pub record HasFinished (note : Note) (rows before after : List ℕ) (back : Finished) : Type 0 where
+  pub first : First (finishTable note rows before) (back .number)
+  pub curve : back .number ≡ 0 → Hands (shapeOf note) (rowsOf (shapeOf note) rows) after (back .weight) (back .height)
+  pub rest : Untouched (curveBytes (shapeOf note)) before after
+  pub refused : (back .number ≡ 0 → ⊥) → (back .weight ≡ 0) × (back .height ≡ 0) × (after ≡ before)

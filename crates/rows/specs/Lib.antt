@@ -1,0 +1,13 @@
+pub mod Curves
+pub mod Multiplicity
+pub mod Start
+pub mod Turns
+pub mod Entry
+pub mod Bytes
+pub mod Jobs
+pub mod Work
+pub mod Finish
+pub mod Demands
+pub mod Runs
+pub mod Examples
+pub mod Filling
