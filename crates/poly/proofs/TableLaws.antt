@@ -3,11 +3,11 @@ use mathlib.Core.Path.{_≡_, refl, sym, subst, _∙_}
 use mathlib.Core.Logic.{_⊎_, inl, inr}
 use mathlib.Core.Bool.{Bool, true, false, true≢false}
 use mathlib.Core.List.{List, [], _∷_}
-use Prim.Native.Nat.{ℕ, _<_}
+use Prim.Native.Nat.{ℕ, zero, suc, _<_}
 use native.Mathlib.Decide.{decLt}
 use native.Mathlib.Omega.{arith}
 use lib.Dec.{T}
-use lib.ListN.{getD}
+use lib.ListN.{getD, take, drop}
 use Rattle.field.specs.Symbols.{listed, Listed}
 use Rattle.field.proofs.SymbolLaws.{is-listed}
 use Rattle.poly.specs.Table.{Refusal, First, NotListed, TooLarge}
@@ -24,6 +24,23 @@ first-determined (x ∷ rest) m n (inr (not, g)) (inr (nor, f)) = first-determin
 pub first-past : {Applies Rest : Type 0} {n number : ℕ} → (Applies × (n ≡ number)) ⊎ ((Applies → ⊥) × Rest) → (n ≡ number → ⊥) → (Applies → ⊥) × Rest
 first-past (inl (here, e)) other = absurd (other e)
 first-past (inr (not, f)) other = (not, f)
+
+-- a table's first n refusals give a number, which is the table's; or they give 0, and then the rest of it does
+pub first-stops : (n : ℕ) (table : List Refusal) (number : ℕ) → First (take n table) number → (number ≡ 0 → ⊥) → First table number
+first-stops zero table number e other = absurd (other e)
+first-stops (suc n) [] number e other = e
+first-stops (suc n) (x ∷ rest) number (inl h) other = inl h
+first-stops (suc n) (x ∷ rest) number (inr (not, f)) other = inr (not, first-stops n rest number f other)
+
+abbrev pub Numbered : List Refusal → Type 0
+Numbered [] = Unit
+Numbered (x ∷ rest) = (0 < x .number) × Numbered rest
+
+pub first-goes : (n : ℕ) (table : List Refusal) (number : ℕ) → Numbered (take n table) → First (take n table) 0 → First (drop n table) number → First table number
+first-goes zero table number k f g = g
+first-goes (suc n) [] number k f g = g
+first-goes (suc n) (x ∷ rest) number k (inl (here, e)) g = let h = k .0 in absurd (omega arith)
+first-goes (suc n) (x ∷ rest) number k (inr (not, f)) g = inr (not, first-goes n rest number (k .1) f g)
 
 -- the two answers of a test
 pub decided-true : {P : Type 0} → P → Decided true P

@@ -1,27 +1,72 @@
 -- What is known of a request that start accepts.
 use mathlib.Core.Path.{_≡_}
-use mathlib.Core.Logic.{inl, inr}
+use mathlib.Core.Logic.{_⊎_, inl, inr}
 use mathlib.Core.List.{List}
 use mathlib.Core.HLevel.{dec→stable}
 use Prim.Native.Nat.{ℕ, _≤_, _<_}
 use native.Mathlib.Decide.{ℕ-discrete}
 use native.Mathlib.Omega.{arith}
 use lib.ListN.{length}
-use Rattle.poly.specs.Table.{First}
+use Rattle.poly.specs.Table.{First, NotListed, BadCount, BadDegree, TooLarge, Repeated}
 use Rattle.poly.specs.Buffers.{Places}
 use Rattle.poly.proofs.TableLaws.{first-past, listed-passed, below-passed}
 use Rattle.rows.specs.Bytes.{shape, rowsBytes}
-use Rattle.rows.specs.Jobs.{startTable}
+use Rattle.rows.specs.Jobs.{startTable, BadHeights}
+use Rattle.rows.specs.Work.{requestTable}
 use Rattle.rows.proofs.Notes.{GoodHeights, good-heights, GoodNote}
 
-module _ (p : ℕ) (points word : List ℕ) (k m l : ℕ) (rows : List ℕ) where
-  pub record Accepted : Type 0 where
+module _ (p : ℕ) (points word : List ℕ) (k m l : ℕ) where
+  -- what the refusals 1 to 7 leave
+  pub record Requested : Type 0 where
+    pub places : Places p points word
+    pub some : 3 ≤ length points
+    pub low : 2 ≤ k
+    pub degree : k < length points
+    pub heights : GoodHeights m l
+
+  pub record Accepted (rows : List ℕ) : Type 0 where
     pub places : Places p points word
     pub some : 3 ≤ length points
     pub low : 2 ≤ k
     pub degree : k < length points
     pub heights : GoodHeights m l
     pub room : rowsBytes (shape p (length points) k m l) ≤ length rows
+
+module _ {p : ℕ} {points word : List ℕ} {k m l : ℕ} where
+  -- seven refusals that do not apply
+  requested : (NotListed p → ⊥) → (BadCount p (length points) → ⊥) → ((length word ≡ length points → ⊥) → ⊥) → (BadDegree (length points) k → ⊥) → (BadHeights m l → ⊥)
+      → (TooLarge p points ⊎ TooLarge p word → ⊥) → (Repeated points → ⊥) → Requested p points word k m l
+  requested size count spelt degree heights large repeated =
+      let few : length points < 3 → ⊥ = λ h. count (inl h) in
+      let many : p < length points → ⊥ = λ h. count (inr h) in
+      let constant : k < 2 → ⊥ = λ h. degree (inl h) in
+      let long : length points ≤ k → ⊥ = λ h. degree (inr h) in
+      record {
+        places =
+            record {
+              size = listed-passed size;
+              count = omega arith;
+              same = dec→stable (ℕ-discrete (length word) (length points)) spelt;
+              points-below = below-passed (λ t. large (inl t));
+              word-below = below-passed (λ t. large (inr t));
+              different = repeated;
+            };
+        some = omega arith;
+        low = omega arith;
+        degree = omega arith;
+        heights = good-heights heights;
+      }
+
+  pub request-accepted : {number : ℕ} → First (requestTable p points word k m l) number → number ≡ 0 → Requested p points word k m l
+  request-accepted first z =
+      let size = first-past first (λ e. omega arith) in
+      let count = first-past (size .1) (λ e. omega arith) in
+      let spelt = first-past (count .1) (λ e. omega arith) in
+      let degree = first-past (spelt .1) (λ e. omega arith) in
+      let heights = first-past (degree .1) (λ e. omega arith) in
+      let large = first-past (heights .1) (λ e. omega arith) in
+      let repeated = first-past (large .1) (λ e. omega arith) in
+      requested (size .0) (count .0) (spelt .0) (degree .0) (heights .0) (large .0) (repeated .0)
 
 module _ {p : ℕ} {points word : List ℕ} {k m l : ℕ} {rows : List ℕ} where
   pub start-accepted : {number : ℕ} → First (startTable p points word k m l rows) number → number ≡ 0 → Accepted p points word k m l rows
@@ -34,24 +79,13 @@ module _ {p : ℕ} {points word : List ℕ} {k m l : ℕ} {rows : List ℕ} wher
       let large = first-past (heights .1) (λ e. omega arith) in
       let repeated = first-past (large .1) (λ e. omega arith) in
       let short = first-past (repeated .1) (λ e. omega arith) in
-      let few : length points < 3 → ⊥ = λ h. count .0 (inl h) in
-      let many : p < length points → ⊥ = λ h. count .0 (inr h) in
-      let constant : k < 2 → ⊥ = λ h. degree .0 (inl h) in
-      let long : length points ≤ k → ⊥ = λ h. degree .0 (inr h) in
+      let r : Requested p points word k m l = requested (size .0) (count .0) (spelt .0) (degree .0) (heights .0) (large .0) (repeated .0) in
       record {
-        places =
-            record {
-              size = listed-passed (size .0);
-              count = omega arith;
-              same = dec→stable (ℕ-discrete (length word) (length points)) (spelt .0);
-              points-below = below-passed (λ t. large .0 (inl t));
-              word-below = below-passed (λ t. large .0 (inr t));
-              different = repeated .0;
-            };
-        some = omega arith;
-        low = omega arith;
-        degree = omega arith;
-        heights = good-heights (heights .0);
+        places = r .places;
+        some = r .some;
+        low = r .low;
+        degree = r .degree;
+        heights = r .heights;
         room = let h = short .0 in omega arith;
       }
 

@@ -1,7 +1,8 @@
--- The document's formula is the sum of r b_r over the rows r = 1 to l, with b_r = min (r, m) (n - k).
+-- The document's formula is the sum of r b_r over the rows r = 1 to l, with b_r = min (r, m) (n - k); and it is never above 3,886.
 use mathlib.Core.Path.{_≡_, refl, sym, ap, ap₂, _∙_}
 use Prim.Native.Nat.{ℕ, zero, suc, _+_, _-_, _*_, _≤_, min}
-use native.Mathlib.Nat.{add-zero, add-suc}
+use native.Mathlib.Nat.{add-zero, add-suc, mul-le-mul, mul-le-mul-right}
+use native.Mathlib.Decide.{decLe}
 use native.Mathlib.Omega.{arith}
 use Rattle.rows.specs.Start.{total, formula}
 
@@ -43,3 +44,31 @@ formula-is n k m l ml =
 
     high : (r : ℕ) → r ≤ l - m → f (m + r) ≡ (n - k) * m * (m + r)
     high r le = let e : min (m + r) m ≡ m = omega arith in rw e (omega arith)
+
+total-le : (a b : ℕ) (f : ℕ → ℕ) → a ≤ b → total a f ≤ total b f
+unfolding total
+total-le a zero f h = let e : a ≡ 0 = omega arith in rw e (omega arith)
+total-le a (suc b) f h = go (decLe a b) (λ k. total-le a b f k)
+  where
+    go : Dec (a ≤ b) → (a ≤ b → total a f ≤ total b f) → total a f ≤ total (suc b) f
+    go (yes k) more = let x = more k in omega arith
+    go (no k) more = let e : a ≡ suc b = omega arith in rw e (omega arith)
+
+-- the most is at n = 31, k = 2, m = 4, l = 8
+pub formula-most : (n k m l : ℕ) → n ≤ 31 → 2 ≤ k → 1 ≤ m → m ≤ 4 → l ≤ 8 → formula n k m l ≤ 3886
+unfolding total
+formula-most n k m l nh kh some mh lh = go m some mh (total-le (l - m) (8 - m) (λ r. m + r) (omega arith))
+  where
+    most : (squares m rest T : ℕ) → rest ≤ T → (n - k) * squares + (n - k) * m * rest ≤ 29 * squares + 29 * m * T
+    most squares m rest T h =
+        let x = mul-le-mul-right {m = n - k} {n = 29} squares (omega arith) in
+        let y = mul-le-mul {n₁ = (n - k) * m} {m₁ = rest} {n₂ = 29 * m} {m₂ = T} (mul-le-mul-right m (omega arith)) h in
+        omega arith
+
+    go : (m : ℕ) → 1 ≤ m → m ≤ 4 → total (l - m) (λ r. m + r) ≤ total (8 - m) (λ r. m + r) → formula n k m l ≤ 3886
+    go zero s h t = absurd (omega arith)
+    go (suc zero) s h t = let x = most 1 1 (total (l - 1) (λ r. 1 + r)) 35 t in omega arith
+    go (suc (suc zero)) s h t = let x = most 5 2 (total (l - 2) (λ r. 2 + r)) 33 t in omega arith
+    go (suc (suc (suc zero))) s h t = let x = most 14 3 (total (l - 3) (λ r. 3 + r)) 30 t in omega arith
+    go (suc (suc (suc (suc zero)))) s h t = let x = most 30 4 (total (l - 4) (λ r. 4 + r)) 26 t in omega arith
+    go (suc (suc (suc (suc (suc m))))) s h t = absurd (omega arith)

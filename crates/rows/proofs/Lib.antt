@@ -40,3 +40,4 @@ pub mod Slots
 pub mod LowRows
 pub mod FilledRows
 pub mod Starting
+pub mod Ends

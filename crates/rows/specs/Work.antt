@@ -11,22 +11,21 @@
 use mathlib.Core.Path.{_≡_}
 use mathlib.Core.Bool.{Bool, true, false}
 use mathlib.Core.Logic.{_⊎_}
-use mathlib.Core.List.{List}
+use mathlib.Core.List.{List, []}
 use Prim.Native.Nat.{ℕ, zero, suc, _+_, _-_, _*_, _≤_, _<_, max}
 use lib.Dec.{leb}
-use lib.ListN.{length, getD, take, drop}
+use lib.ListN.{length, getD, take}
 use lib.Seq.{sets}
 use Rattle.field.specs.Ring.{Ring}
 use Rattle.field.specs.Lists.{tabulate}
-use Rattle.field.specs.Symbols.{Listed, Element, symbol, symbols}
+use Rattle.field.specs.Symbols.{Listed, Element, symbols}
 use Rattle.field.specs.Operations.{minusBytes, timesBytes}
 use Rattle.field.specs.Kernels.{Region}
-use Rattle.poly.specs.Polynomials.{Seq}
+use Rattle.poly.specs.Table.{Refusal}
 use Rattle.rows.specs.Curves.{Curve, Height, Zero, Under, Lead, LeadsAt}
-use Rattle.rows.specs.Start.{startRow}
 use Rattle.rows.specs.Entry.{Sound}
-use Rattle.rows.specs.Bytes.{slot, rowsBytes, curveBytes, within, rowsOf, place, Holds, Untouched}
-use Rattle.rows.specs.Jobs.{BadNote, shapeOf, Goes}
+use Rattle.rows.specs.Bytes.{slot, rowsBytes, curveBytes, within, rowsOf, place, Untouched}
+use Rattle.rows.specs.Jobs.{startTable, BadNote, shapeOf, Goes}
 use Rattle.rows.specs.declared.Shape.{Shape}
 use Rattle.rows.specs.declared.Note.{Note}
 use Rattle.rows.specs.declared.Turned.{Turned}
@@ -143,3 +142,7 @@ pub record HandsOver (S : Shape) (xs : List ℕ) (row weight : ℕ) (curve : Lis
 -- the first `len` bytes become those of src from `at` on
 unfoldable pub copiedFrom : List ℕ → ℕ → ℕ → List ℕ → List ℕ
 copiedFrom src at len xs = sets xs 0 (tabulate len (λ i. getD src (at + i) 0))
+
+-- the refusals of a request, before that of the lent bytes
+abbrev pub requestTable : ℕ → List ℕ → List ℕ → ℕ → ℕ → ℕ → List Refusal
+requestTable p points word k m l = take 7 (startTable p points word k m l [])

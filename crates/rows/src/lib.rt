@@ -5,7 +5,7 @@ ghost use lib.ListN.{length};
 ghost use Rattle.poly.specs.Table.{First};
 ghost use Rattle.poly.specs.Buffers.{Decided};
 ghost use Rattle.rows.specs.Jobs.{HasStarted, HasTurned, HasFinished, startTable, turnTable, finishTable, BadHeights, BadNote, atRow, withNote};
-ghost use Rattle.rows.specs.Work.{Ready, Went};
+ghost use Rattle.rows.specs.Work.{requestTable, Ready, Went};
 use field::Symbol;
 
 mod layout; // layout.rt: how curves and rows lie in bytes
@@ -55,9 +55,9 @@ pub struct Finished {
     pub height: u8,
 }
 
-// The first refusal of start that applies, or 0.
-fn refuse_start(p: u8, points: &[u8], word: &[u8], k: u8, m: u8, l: u8, rows: &[u8]) -> u8
-    ensures { λ r. ⌜ First (startTable p (now (points .entry)) (now (word .entry)) k m l (now (rows .entry))) r ⌝ }
+// The first of the refusals 1 to 7 that applies, or 0.
+pub fn refuse_request(p: u8, points: &[u8], word: &[u8], k: u8, m: u8, l: u8) -> u8
+    ensures { λ r. ⌜ First (requestTable p (now (points .entry)) (now (word .entry)) k m l) r ⌝ }
 {
     if !field::is_listed(p) {
         return 1;
@@ -90,7 +90,18 @@ fn refuse_start(p: u8, points: &[u8], word: &[u8], k: u8, m: u8, l: u8, rows: &[
     if poly::repeated(points) {
         return 7;
     }
-    let shape = layout::of(p, n as u8, k, m, l);
+    0
+}
+
+// The first refusal of start that applies, or 0.
+fn refuse_start(p: u8, points: &[u8], word: &[u8], k: u8, m: u8, l: u8, rows: &[u8]) -> u8
+    ensures { λ r. ⌜ First (startTable p (now (points .entry)) (now (word .entry)) k m l (now (rows .entry))) r ⌝ }
+{
+    let number = refuse_request(p, points, word, k, m, l);
+    if number != 0 {
+        return number;
+    }
+    let shape = layout::of(p, points.len() as u8, k, m, l);
     if rows.len() < layout::rows_bytes(shape) {
         return 9;
     }

@@ -1,0 +1,45 @@
+-- A turn that comes to the end of the rows: the allowance does not matter, once it is enough, and of the rows only those up to l do.
+use mathlib.Core.Path.{_≡_, refl, ap}
+use Prim.Native.Nat.{ℕ, suc, _+_, _≤_}
+use native.Mathlib.Nat.{add-comm, suc-add}
+use native.Mathlib.Omega.{arith}
+use Rattle.field.specs.Field.{Field, FieldLaws}
+use Rattle.rows.specs.Curves.{Curve}
+use Rattle.rows.specs.Turns.{put, update, Outcome, stops, counted, Turn, finished, rises, pauses, updates, halts}
+use Rattle.rows.specs.Entry.{Sound}
+use Rattle.rows.proofs.Entry.{sound-rises, sound-below, sound-update}
+use Rattle.rows.proofs.Turns.{turn-determined}
+
+module _ {F : Field} {u l : ℕ} where
+  turn-more : {a r : ℕ} {rows : ℕ → Curve (F .ring)} {o : Outcome F} (c : ℕ) → Turn F u l a rows r o → o .row ≡ suc l → Turn F u l (a + c) rows r o
+  turn-more c (finished h) e = finished h
+  turn-more c (rises w h x t) e = rises w h x (turn-more c t e)
+  turn-more c (pauses w s h x n) e = absurd (omega arith)
+  turn-more c (updates {a = a} w s v d n t) e = rw (suc-add a c) (updates w s v d n (turn-more c t e))
+  turn-more c (halts w s v d z) e = let h = d .inside in absurd (omega arith)
+
+  pub end-determined : {a b r : ℕ} {rows : ℕ → Curve (F .ring)} {o p : Outcome F} → Turn F u l a rows r o → o .row ≡ suc l → Turn F u l b rows r p → p .row ≡ suc l → o ≡ p
+  end-determined {a} {b} t e q f = turn-determined (turn-more b t e) (rw (add-comm a b) (turn-more a q f))
+
+update-alike : (F : Field) (u l : ℕ) {r s : ℕ} (w v : ℕ) {rows new : ℕ → Curve (F .ring)} → r ≤ l → s ≤ l → ((i : ℕ) → i ≤ l → new i ≡ rows i)
+    → (i : ℕ) → i ≤ l → update F u r w s v new i ≡ update F u r w s v rows i
+unfolding update put
+update-alike F u l {r} {s} w v h k same i x = rw (same r h, same s k, same i x)
+
+module _ {F : Field} (Φ : FieldLaws F) {u W l : ℕ} where
+  pub end-alike : {a r : ℕ} {rows new : ℕ → Curve (F .ring)} {o : Outcome F} → Sound (F .ring) u W l r rows → ((i : ℕ) → i ≤ l → new i ≡ rows i) → Turn F u l a rows r o → o .row ≡ suc l
+      → (p : Outcome F) × Turn F u l a new r p × (p .row ≡ suc l) × (p .updates ≡ o .updates)
+  end-alike {r = r} {new = new} g same (finished h) e = (stops F 0 new r, finished h, e, refl)
+  end-alike {r = r} {new = new} g same (rises w h x t) e = let (p, q, i, j) = end-alike (sound-rises g (w, x)) same t e in (p, rises {rows = new} {r = r} w h (rw (same r h) x) q, i, j)
+  end-alike g same (pauses w s h x n) e = absurd (omega arith)
+  end-alike {r = r} {new = new} g same (updates w s v d n t) e =
+      let h = d .inside in
+      let k = sound-below g d in
+      let alike = update-alike F u l {s = s} w v h (omega arith) same in
+      let (p, q, i, j) = end-alike (sound-update Φ g d n) alike t e in (
+        counted F p,
+        updates {rows = new} w s v (record { inside = h; lead = rw (same r h) (d .lead); other = d .other; below = rw (same s (omega arith)) (d .below) }) (λ z. n (rw (alike r h) at z)) q,
+        i,
+        ap suc j,
+      )
+  end-alike g same (halts w s v d z) e = let h = d .inside in absurd (omega arith)
