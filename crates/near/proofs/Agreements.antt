@@ -1,0 +1,79 @@
+-- Nobody is missing (propositions 5 and 6). At a place where g agrees, Q (x, g (x)) vanishes with the curve's multiplicity there; if these
+-- add up to more than the curve's weight, they are more than its degree, and Q (x, g (x)) is zero.
+use mathlib.Core.Path.{_≡_, refl, sym, ap, _∙_}
+use Prim.Native.Nat.{ℕ, zero, suc, _+_, _-_, _*_, _≤_, _<_}
+use native.Mathlib.Nat.{mul-zero, mul-add, mul-le-mul-left}
+use native.Mathlib.Omega.{arith}
+use Rattle.field.specs.Ring.{Ring, RingLaws}
+use Rattle.field.specs.Field.{Field, FieldLaws}
+use Rattle.poly.specs.Polynomials.{Seq, zeroS, Series, Below, value, Distinct}
+use Rattle.poly.proofs.Series.{series}
+use Rattle.poly.proofs.Bounds.{below-same}
+use Rattle.poly.proofs.Evaluation.{value-more}
+use Rattle.poly.proofs.Shift.{shift, shift-value, shift-any}
+use Rattle.poly.proofs.Orders.{Ord}
+use Rattle.poly.proofs.Degrees.{total, total-zero, total-suc}
+use Rattle.poly.proofs.Places.{distinct-apart, orders-zero}
+use Rattle.rows.specs.Curves.{Curve, Finite, Under, Lead}
+use Rattle.rows.specs.Multiplicity.{Multiplicity, Passing}
+use Rattle.rows.proofs.Leads.{under-mono}
+use Rattle.rows.proofs.Along.{below-along, along}
+use Rattle.rows.proofs.Multiplicities.{multiplicity-vanish}
+use Rattle.near.specs.Lists.{Task, one, agreements, Wanted}
+use Rattle.near.proofs.Weights.{below-graph}
+
+-- at one place: the order of Q (x, g (x)), whose degree is below W
+module _ {R : Ring} (L : RingLaws R) {u W : ℕ} {Q : Curve R} (fin : Finite R Q) (light : Under R u W 0 Q) (N : ℕ) {g : Seq R} (short : Below R (suc u) g) where
+  graph-order : (m : ℕ) (a v : R .Car) → Multiplicity R m (fin .0) N a v Q → value R a (suc u) g ≡ v → Ord R m (shift R a W (value (Series R) g N Q))
+  graph-order m a v mult on i l =
+      ap (λ (f : Seq R). f i)
+      (shift-any L a W (N * suc u + fin .0) (value (Series R) g N Q) (below-graph L u W N Q g short light)
+      (below-same L (sym (shift-value (series L) g N Q)) (below-along L (fin .0) (suc u) N Q g (fin .1) short 0))
+      ∙ ap (shift R a (N * suc u + fin .0)) (sym (shift-value (series L) g N Q)))
+      ∙ along L (record { short = short; hits = λ s k. on }) 0 (omega arith) N Q fin m (multiplicity-vanish L m (fin .0) N a v Q mult) 0 i (omega arith)
+
+module _ {F : Field} (job : Task F) (g : Seq (F .ring)) where
+  pub agreements-zero : agreements job 0 g ≡ 0
+  unfolding agreements
+  agreements-zero = refl
+
+  -- whether g agrees at place s
+  abbrev pub agrees? : (s : ℕ) → Dec (value (F .ring) (job .point s) (job .k) g ≡ job .received s)
+  agrees? s = F .same? (value (F .ring) (job .point s) (job .k) g) (job .received s)
+
+  pub agreements-suc : (n : ℕ) → agreements job (suc n) g ≡ agreements job n g + one (agrees? n)
+  unfolding agreements
+  agreements-suc n = refl
+
+  agreements-total : (m n : ℕ) → total n (λ s. m * one (agrees? s)) ≡ m * agreements job n g
+  agreements-total m zero = total-zero (λ s. m * one (agrees? s)) ∙ rw agreements-zero (sym (mul-zero m))
+  agreements-total m (suc n) = rw (total-suc n (λ s. m * one (agrees? s)), agreements-total m n, agreements-suc n) (sym (mul-add m (agreements job n g) (one (agrees? n))))
+
+module _ {F : Field} (Φ : FieldLaws F) (job : Task F) (points : Distinct (F .ring) (job .n) (job .point)) where
+  abbrev R : Ring
+  R = F .ring
+
+  abbrev L : RingLaws R
+  L = Φ .ring
+
+  -- a multiplicity for each place
+  module _ {W : ℕ} {Q : Curve R} (fin : Finite R Q) (light : Under R (job .k - 1) W 0 Q) (N : ℕ) (ms : ℕ → ℕ) (mult : (s : ℕ) → s < job .n → Multiplicity R (ms s) (fin .0) N (job .point s) (job .received s) Q) where
+    pub nobody-missing : (g : Seq R) → Below R (job .k) g → W ≤ total (job .n) (λ s. ms s * one (agrees? job g s)) → value (Series R) g N Q ≡ zeroS R
+    nobody-missing g short le =
+        orders-zero L (job .n) W (job .point) (λ s. ms s * one (agrees? job g s)) (value (Series R) g N Q) (distinct-apart Φ (job .n) (job .point) points)
+        (below-graph L (job .k - 1) W N Q g wide light) le (λ s l. order s l (agrees? job g s))
+      where
+        wide : Below R (suc (job .k - 1)) g
+        wide i l = short i (omega arith)
+
+        order : (s : ℕ) → s < job .n → (d : Dec (value R (job .point s) (job .k) g ≡ job .received s)) → Ord R (ms s * one d) (shift R (job .point s) W (value (Series R) g N Q))
+        order s l (yes e) i k = graph-order L fin light N wide (ms s) (job .point s) (job .received s) (mult s l) (value-more L (job .point s) (job .k) (suc (job .k - 1)) g short (omega arith) ∙ e) i (omega arith)
+        order s l (no e) i k = absurd (omega arith)
+
+  -- the curve vanishes along every wanted message, if m t is above its weight
+  module _ {m l w s : ℕ} {Q : Curve R} (pass : Passing R (job .n) m l (job .point) (job .received) Q) (lead : Lead R (job .k - 1) w s Q) (enough : w < m * job .t) where
+    pub wanted-root : (g : Seq R) → Wanted job g → value (Series R) g (suc l) Q ≡ zeroS R
+    wanted-root g want =
+        let e = agreements-total job g m (job .n) in
+        let le : m * job .t ≤ m * agreements job (job .n) g = mul-le-mul-left m (want .agrees) in
+        nobody-missing (pass .finite) (under-mono R (job .k - 1) w (suc s) (suc w) 0 Q (omega arith) (λ q. absurd (omega arith)) (lead .rest)) (suc l) (λ s. m) (pass .multiplicity) g (want .degree) (omega arith)

@@ -1,0 +1,64 @@
+-- The search gives the list, and the list has at most l messages: those on it are different roots of a curve of height at most l.
+-- Weights are bounded too: that of the smallest curve is at most m n.
+use mathlib.Core.Path.{_≡_, ap, _∙_}
+use mathlib.Core.Logic.{_≢_}
+use mathlib.Core.List.{List, []}
+use Prim.Native.Nat.{ℕ, suc, _-_, _*_, _≤_, _<_}
+use native.Mathlib.Omega.{arith}
+use lib.ListN.{length, getD}
+use Rattle.field.specs.Ring.{Ring}
+use Rattle.field.specs.Field.{Field, FieldLaws}
+use Rattle.poly.specs.Polynomials.{Seq, zeroS, Series, value, Distinct, locator}
+use Rattle.poly.proofs.Series.{series}
+use Rattle.poly.proofs.Places.{roots-at-most, polynomials-apart}
+use Rattle.poly.proofs.Interpolation.{interpolate}
+use Rattle.rows.specs.Curves.{Curve, Lead, Smallest}
+use Rattle.rows.specs.Multiplicity.{Passing}
+use Rattle.rows.specs.Start.{startRow}
+use Rattle.rows.proofs.Heights.{zero-at, height-below}
+use Rattle.rows.proofs.Leads.{lead-nonzero}
+use Rattle.rows.proofs.Spans.{span-row}
+use Rattle.rows.proofs.Generated.{start-passes}
+use Rattle.rows.proofs.StartRows.{start-first}
+use Rattle.near.specs.Lists.{Task, Numbering, polynomial, Wanted, IsList}
+use Rattle.near.specs.Search.{found}
+use Rattle.near.proofs.Messages.{polynomial-same}
+use Rattle.near.proofs.Lists.{in-at, ascending-once}
+use Rattle.near.proofs.Agreements.{wanted-root}
+use Rattle.near.proofs.Found.{found-list}
+
+module _ {F : Field} (Φ : FieldLaws F) (job : Task F) (num : Numbering F (job .p) (job .element)) (points : Distinct (F .ring) (job .n) (job .point)) where
+  abbrev R : Ring
+  R = F .ring
+
+  -- a nonzero curve of demand 2 whose weight is below m t
+  module _ {m l w s : ℕ} {Q : Curve R} (pass : Passing R (job .n) m l (job .point) (job .received) Q) (lead : Lead R (job .k - 1) w s Q) (enough : w < m * job .t) where
+    root : (g : Seq R) → Wanted job g → value (Series R) g (suc l) Q ≡ zeroS R
+    root = wanted-root Φ job points pass lead enough
+
+    pub search-is-list : (W : ℕ) → IsList job (found job (suc l) W Q)
+    search-is-list W = found-list Φ job num (suc l) W Q (pass .height) root
+
+    pub list-at-most : (list : List (List ℕ)) → IsList job list → length list ≤ l
+    list-at-most list h = roots-at-most (series (Φ .ring)) l (length list) g Q some (height-below R (pass .height)) (polynomials-apart Φ (length list) (job .k) g (λ i k. wanted i k .degree) different) (λ i k. root (g i) (wanted i k))
+      where
+        g : ℕ → Seq R
+        g i = polynomial job (getD list i [])
+
+        wanted : (i : ℕ) → i < length list → Wanted job (g i)
+        wanted i k = h .wanted (getD list i []) (in-at list i k)
+
+        some : Q ≢ zeroS (Series R)
+        some z = lead-nonzero lead (λ j e. ap (λ (P : Curve R). P j e) z ∙ zero-at R j e)
+
+        different : (i j : ℕ) → i < length list → j < length list → g i ≡ g j → i ≡ j
+        different i j k q e =
+            ascending-once list (h .ascending) i j k q
+            (polynomial-same job num (getD list i []) (getD list j []) (h .spelt (getD list i []) (in-at list i k)) (h .spelt (getD list j []) (in-at list j q)) e)
+
+-- the smallest curve weighs at most m n, since e^m is a curve of demand 2
+pub smallest-weight : {F : Field} (Φ : FieldLaws F) {n m l u : ℕ} {a v : ℕ → F .ring .Car} {Q : Curve (F .ring)} → Distinct (F .ring) n a → m ≤ l
+    → (S : Smallest (F .ring) u (Passing (F .ring) n m l a v) Q) → S .weight ≤ m * n
+smallest-weight {F} Φ {n} {m} {l} {u} {a} {v} points ml S =
+    let h = interpolate Φ n a v points in
+    S .least (startRow (F .ring) m (locator (F .ring) n a) (h .0) 0) (start-passes (Φ .ring) (h .1) ml (span-row (Φ .ring) 0 (omega arith))) (m * n) 0 (start-first Φ m (h .1) u) .0

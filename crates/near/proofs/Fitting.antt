@@ -1,0 +1,160 @@
+-- Which symbols fit. Below its least v the slices of T are zero, and there it is not, if T is not zero: so a root of the slice at v is
+-- a symbol that fits, as the document says it. A root's next symbol is one.
+use mathlib.Core.Path.{_≡_, refl, sym, ap, _∙_, fun-ext}
+use mathlib.Core.Logic.{_≢_}
+use mathlib.Core.Bool.{Bool, true, false}
+use Prim.Native.Nat.{ℕ, zero, suc, _+_, _-_, _*_, _≤_, _<_, zero-le}
+use native.Mathlib.Nat.{add-sub-cancel, mul-le-mul-right}
+use native.Mathlib.Omega.{arith}
+use native.Mathlib.Decide.{decLe, decLt, ℕ-discrete}
+use Rattle.field.specs.Ring.{Ring, RingLaws}
+use Rattle.field.specs.Field.{Field, FieldLaws}
+use Rattle.poly.specs.Polynomials.{Seq, zeroS, addS, negS, mulS, Series, Below, value}
+use Rattle.poly.proofs.Series.{series, zeroS-at}
+use Rattle.poly.proofs.Shift.{shift, shift-null, shift-back, below-shift}
+use Rattle.poly.proofs.Orders.{Ord}
+use Rattle.rows.specs.Curves.{Curve, Height, Zero, Under, Lead}
+use Rattle.rows.specs.Turns.{choose, mono}
+use Rattle.rows.proofs.Heights.{zero-at, height-below, below-height}
+use Rattle.rows.proofs.Leads.{under-mono, lead-nonzero}
+use Rattle.near.specs.Search.{Fits, slice, least, some?, lowest}
+use Rattle.near.proofs.Weights.{under-shift}
+use Rattle.near.proofs.Steps.{slice-at, slice-beyond, line-slice, root-symbol}
+
+-- all before the least fail, and the least passes
+record Least (W : ℕ) (test : ℕ → Bool) (v : ℕ) : Type 0 where
+  inside : v ≤ W
+  before : (i : ℕ) → i < v → test i ≡ false
+  passes : v < W → test v ≡ true
+
+least-is : (W : ℕ) (test : ℕ → Bool) → Least W test (least W test)
+unfolding least
+least-is zero test = record { inside = omega arith; before = λ i l. absurd (omega arith); passes = λ l. absurd (omega arith) }
+least-is (suc W) test = go (test 0) refl (least-is W (λ v. test (suc v)))
+  where
+    go : (b : Bool) → test 0 ≡ b → Least W (λ v. test (suc v)) (least W (λ v. test (suc v)))
+        → Least (suc W) test (elim b as (λ _. ℕ) [ true ↦ 0 | false ↦ suc (least W (λ v. test (suc v))) ])
+    go true e h = record { inside = omega arith; before = λ i l. absurd (omega arith); passes = λ l. e }
+    go false e h =
+        let k = h .inside in
+        record { inside = omega arith; before = before; passes = λ l. h .passes (omega arith) }
+      where
+        before : (i : ℕ) → i < suc (least W (λ v. test (suc v))) → test i ≡ false
+        before zero l = e
+        before (suc i) l = h .before i (omega arith)
+
+module _ (F : Field) where
+  some-false : (N : ℕ) (f : Seq (F .ring)) → some? F N f ≡ false → Ord (F .ring) N f
+  unfolding some?
+  some-false zero f e j l = absurd (omega arith)
+  some-false (suc N) f e j l = go (F .same? (f N) (F .ring .𝟘)) e (λ d. some-false N f d) (ℕ-discrete j N)
+    where
+      go : (d : Dec (f N ≡ F .ring .𝟘)) → choose d (some? F N f) true ≡ false → (some? F N f ≡ false → Ord (F .ring) N f) → Dec (j ≡ N) → f j ≡ F .ring .𝟘
+      go (yes z) e ih (yes q) = rw q z
+      go (yes z) e ih (no q) = ih e j (omega arith)
+      go (no z) e ih q = absurd (let b : _≡_ {A = ℕ} 0 1 = cc in omega arith)
+
+  some-true : (N : ℕ) (f : Seq (F .ring)) → some? F N f ≡ true → Ord (F .ring) N f → ⊥
+  unfolding some?
+  some-true zero f e o = let b : _≡_ {A = ℕ} 0 1 = cc in omega arith
+  some-true (suc N) f e o = go (F .same? (f N) (F .ring .𝟘)) e (λ d. some-true N f d (λ i l. o i (omega arith)))
+    where
+      go : (d : Dec (f N ≡ F .ring .𝟘)) → choose d (some? F N f) true ≡ true → (some? F N f ≡ true → ⊥) → ⊥
+      go (yes z) e ih = ih e
+      go (no z) e ih = z (o N (omega arith))
+
+module _ (R : Ring) where
+  -- the slices of T begin at v
+  pub record Begins (i v : ℕ) (T : Curve R) : Type 0 where
+    pub none : (e j : ℕ) → e < v → slice R i e T j ≡ R .𝟘
+    pub some : ((j : ℕ) → slice R i v T j ≡ R .𝟘) → ⊥
+
+  pub begins-unique : {i v w : ℕ} {T : Curve R} → Begins i v T → Begins i w T → v ≡ w
+  begins-unique {i} {v} {w} b c = go (decLt v w) (decLt w v)
+    where
+      go : Dec (v < w) → Dec (w < v) → v ≡ w
+      go (yes l) d = absurd (b .some (λ j. c .none v j l))
+      go (no l) (yes k) = absurd (c .some (λ j. b .none w j k))
+      go (no l) (no k) = omega arith
+
+module _ {R : Ring} (L : RingLaws R) where
+  -- the same by T's symbols: nothing stands at T_j[e] where e + i j < v, and something where it is v
+  pub begins-at : {i v : ℕ} {T : Curve R} → ((j e : ℕ) → e + i * j < v → T j e ≡ R .𝟘) → (j e : ℕ) → e + i * j ≡ v → T j e ≢ R .𝟘 → Begins R i v T
+  begins-at {i} {v} {T} none j e at ne = record { none = λ d j l. go d j l (decLe (i * j) d); some = λ z. ne (ap (T j) back ∙ sym (slice-at L i v T j (omega arith)) ∙ z j) }
+    where
+      back : e ≡ v - i * j
+      back = omega arith
+
+      go : (d j : ℕ) → d < v → Dec (i * j ≤ d) → slice R i d T j ≡ R .𝟘
+      go d j l (yes k) = slice-at L i d T j k ∙ none j (d - i * j) (omega arith)
+      go d j l (no k) = slice-beyond L i d T j (omega arith)
+
+module _ {F : Field} (Φ : FieldLaws F) (N W : ℕ) where
+  abbrev R : Ring
+  R = F .ring
+
+  abbrev L : RingLaws R
+  L = Φ .ring
+
+  module _ {T : Curve R} (tall : Height R N T) (i : ℕ) where
+    slice-tall : (e j : ℕ) → N ≤ j → slice R i e T j ≡ R .𝟘
+    slice-tall e j l = go (decLe (i * j) e)
+      where
+        go : Dec (i * j ≤ e) → slice R i e T j ≡ R .𝟘
+        go (yes k) = slice-at L i e T j k ∙ tall j (e - i * j) l
+        go (no k) = slice-beyond L i e T j (omega arith)
+
+    lowest-none : (e j : ℕ) → e < lowest F N W i T → slice R i e T j ≡ R .𝟘
+    lowest-none e j l = go (decLt j N)
+      where
+        go : Dec (j < N) → slice R i e T j ≡ R .𝟘
+        go (yes k) = some-false F N (slice R i e T) (least-is W (λ v. some? F N (slice R i v T)) .before e l) j k
+        go (no k) = slice-tall e j (omega arith)
+
+    pub lowest-begins : {u : ℕ} → i ≤ u → Under R u W 0 T → (Zero R T → ⊥) → Begins R i (lowest F N W i T) T
+    lowest-begins {u} iu light some =
+        let h = least-is W (λ v. some? F N (slice R i v T)) in
+        record { none = lowest-none; some = λ z. some-true F N (slice R i (lowest F N W i T) T) (h .passes (go (decLt (lowest F N W i T) W) (h .inside))) (λ j l. z j) }
+      where
+        null : W ≤ lowest F N W i T → (j e : ℕ) → Dec (W ≤ e + u * j) → T j e ≡ R .𝟘
+        null b j e (yes k) = light j e k (λ _. zero-le)
+        null b j e (no k) =
+            let q : i * j ≤ u * j = mul-le-mul-right j iu in
+            ap (T j) (sym (add-sub-cancel e (i * j))) ∙ sym (slice-at L i (e + i * j) T j (omega arith)) ∙ lowest-none (e + i * j) j (omega arith)
+
+        go : Dec (lowest F N W i T < W) → lowest F N W i T ≤ W → lowest F N W i T < W
+        go (yes k) h = k
+        go (no k) h = absurd (some (λ j e. null (omega arith) j e (decLe W (e + u * j))))
+
+  -- the next symbol of a root of Q that begins with the i symbols of g is a root of the lowest slice
+  pub root-fits : (g f : Seq R) (i : ℕ) (Q : Curve R) → value (Series R) (addS R (mulS R (mono R (R .𝟙) i) f) g) N Q ≡ zeroS R
+      → value R (f 0) N (slice R i (lowest F N W i (shift (Series R) g N Q)) (shift (Series R) g N Q)) ≡ R .𝟘
+  root-fits g f i Q root = root-symbol L N g f i Q (lowest F N W i (shift (Series R) g N Q)) root (lowest-none (below-height R (below-shift (series L) g N Q)) i)
+
+  -- for a curve of weight below W: the roots of the lowest slice are the symbols that fit
+  module _ {u w s : ℕ} {Q : Curve R} (tall : Height R N Q) (lead : Lead R u w s Q) (inside : w < W) {g : Seq R} (short : Below R (suc u) g) {i : ℕ} (iu : i ≤ u) where
+    abbrev T : Curve R
+    T = shift (Series R) g N Q
+
+    begins : Begins R i (lowest F N W i T) T
+    begins = lowest-begins (below-height R (below-shift (series L) g N Q)) i iu (under-shift L u W N Q g short (under-mono R u w (suc s) W 0 Q (omega arith) (λ q. absurd (omega arith)) (lead .rest))) some
+      where
+        some : Zero R T → ⊥
+        some z =
+            let e : T ≡ zeroS (Series R) = fun-ext (λ j. fun-ext (λ d. z j d ∙ sym (zeroS-at R d)) ∙ sym (zeroS-at (Series R) j)) in
+            let q : Q ≡ zeroS (Series R) = sym (shift-back (series L) g N Q (height-below R tall)) ∙ rw e (shift-null (series L) (negS R g) N) in
+            lead-nonzero lead (λ j d. ap (λ (P : Curve R). P j d) q ∙ zero-at R j d)
+
+    pub slice-fits : (c : R .Car) → value R c N (slice R i (lowest F N W i T) T) ≡ R .𝟘 → Fits R N g i Q c
+    slice-fits c z =
+        record {
+          power = lowest F N W i T;
+          divides = λ j e l. line-slice L N g i Q j e ∙ begins .none e j l;
+          highest = λ n. begins .some (λ j. sym (line-slice L N g i Q j (lowest F N W i T)) ∙ n j);
+          root = ap (value R c N) (fun-ext (λ j. line-slice L N g i Q j (lowest F N W i T))) ∙ z;
+        }
+
+    pub fits-slice : (c : R .Car) → Fits R N g i Q c → value R c N (slice R i (lowest F N W i T) T) ≡ R .𝟘
+    fits-slice c h =
+        let b : Begins R i (h .power) T = record { none = λ e j l. sym (line-slice L N g i Q j e) ∙ h .divides j e l; some = λ n. h .highest (λ j. line-slice L N g i Q j (h .power) ∙ n j) } in
+        ap (λ v. value R c N (slice R i v T)) (begins-unique R begins b) ∙ ap (value R c N) (fun-ext (λ j. sym (line-slice L N g i Q j (h .power)))) ∙ h .root

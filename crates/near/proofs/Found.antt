@@ -1,0 +1,131 @@
+-- The search finds exactly the wanted messages, in ascending order, if the curve vanishes along each of them. By induction on the symbols
+-- left: T is what the symbols chosen so far leave of Q, and every message that goes on from them and is a root passes the next test.
+use mathlib.Core.Path.{_≡_, refl, sym, ap, _∙_, fun-ext}
+use mathlib.Core.List.{List, [], _∷_, _++_, append-nil, List·Memᴰ·head, List·Memᴰ·not-nil, List·Memᴰ·eq-of-singleton}
+use Prim.Native.Nat.{ℕ, zero, suc, _+_, _-_, _≤_, _<_}
+use native.Mathlib.Omega.{arith}
+use native.Mathlib.Decide.{decLe}
+use lib.ListN.{length}
+use lib.Seq.{append-snoc}
+use Rattle.field.specs.Ring.{Ring, RingLaws}
+use Rattle.field.specs.Field.{Field, FieldLaws}
+use Rattle.poly.specs.Polynomials.{Seq, zeroS, Series, value}
+use Rattle.poly.proofs.Series.{series, zeroS-at}
+use Rattle.poly.proofs.Shift.{shift, shift-shift, shift-none}
+use Rattle.rows.specs.Curves.{Curve, Height}
+use Rattle.rows.specs.Turns.{choose, mono}
+use Rattle.rows.proofs.Heights.{height-below}
+use Rattle.near.specs.Lists.{Task, Numbering, polynomial, agreements, Spelt, In, Before, Ascending, Wanted, IsList}
+use Rattle.near.specs.Search.{chosen, fits?, each, level, opened, found}
+use Rattle.near.proofs.Messages.{spelt-nil, spelt-cons, spell, polynomial-beyond, polynomial-append, polynomial-snoc}
+use Rattle.near.proofs.Lists.{in-each, each-in, ascending-each, before-append}
+use Rattle.near.proofs.Fitting.{root-fits}
+use Rattle.near.proofs.Passes.{chosen-shift}
+
+-- something only if the answer is yes
+module _ {A : Type 0} where
+  choose-in : (d : Dec A) {x : List ℕ} {l : List (List ℕ)} → In x (choose d l []) → A × In x l
+  choose-in (yes a) h = (a, h)
+  choose-in (no a) h = absurd (List·Memᴰ·not-nil h)
+
+  in-choose : (d : Dec A) {x : List ℕ} {l : List (List ℕ)} → A → In x l → In x (choose d l [])
+  in-choose (yes a) b h = h
+  in-choose (no a) b h = absurd (a b)
+
+  ascending-choose : (d : Dec A) (l : List (List ℕ)) → Ascending l → Ascending (choose d l [])
+  ascending-choose (yes a) l h = h
+  ascending-choose (no a) l h = tt
+
+-- the clauses of `level`, as equations to rewrite by
+module _ {F : Field} (job : Task F) (N W : ℕ) where
+  pub level-zero : (x : List ℕ) (T : Curve (F .ring)) → level job N W zero x T ≡ choose (decLe (job .t) (agreements job (job .n) (polynomial job x))) (x ∷ []) []
+  unfolding level
+  level-zero x T = refl
+
+  -- what comes of trying c
+  abbrev pub branch : ℕ → List ℕ → Curve (F .ring) → ℕ → List (List ℕ)
+  branch left x T c = choose (fits? F N W (length x) T (job .element c)) (opened job N W left x T c) []
+
+  pub level-suc : (left : ℕ) (x : List ℕ) (T : Curve (F .ring)) → level job N W (suc left) x T ≡ each (job .p) (branch left x T)
+  unfolding level
+  level-suc left x T = refl
+
+module _ {F : Field} (Φ : FieldLaws F) (job : Task F) (num : Numbering F (job .p) (job .element)) where
+  abbrev R : Ring
+  R = F .ring
+
+  abbrev L : RingLaws R
+  L = Φ .ring
+
+  module _ (N W : ℕ) where
+    -- what is found begins with x, goes on with `left` symbols, and has the agreements
+    record Goes (left : ℕ) (x z : List ℕ) : Type 0 where
+      after : List ℕ
+      is : z ≡ x ++ after
+      spelt : Spelt (job .p) left after
+      agrees : job .t ≤ agreements job (job .n) (polynomial job z)
+
+    goes-cons : {left : ℕ} {x z : List ℕ} (c : ℕ) → c < job .p → Goes left (x ++ (c ∷ [])) z → Goes (suc left) x z
+    goes-cons {left} {x} c l g = record { after = c ∷ g .after; is = g .is ∙ append-snoc x c (g .after); spelt = spelt-cons l (g .spelt); agrees = g .agrees }
+
+    level-goes : (left : ℕ) (x : List ℕ) (T : Curve R) (z : List ℕ) → In z (level job N W left x T) → Goes left x z
+    level-goes zero x T z h =
+        let a = choose-in (decLe (job .t) (agreements job (job .n) (polynomial job x))) (rw (level-zero job N W x T) at h) in
+        let e : z ≡ x = List·Memᴰ·eq-of-singleton (a .1) in
+        record { after = []; is = e ∙ sym (append-nil x); spelt = spelt-nil; agrees = rw e (a .0) }
+    level-goes (suc left) x T z h =
+        let a = each-in (job .p) (branch job N W left x T) (rw (level-suc job N W left x T) at h) in
+        let c : ℕ = a .0 in
+        goes-cons c (a .1) (level-goes left (x ++ (c ∷ [])) (chosen R N (length x) (job .element c) T) z (choose-in (fits? F N W (length x) T (job .element c)) (a .2) .1))
+
+    level-ascending : (left : ℕ) (x : List ℕ) (T : Curve R) → Ascending (level job N W left x T)
+    level-ascending zero x T = rw (level-zero job N W x T) (ascending-choose (decLe (job .t) (agreements job (job .n) (polynomial job x))) (x ∷ []) ((λ y h. absurd (List·Memᴰ·not-nil h)), tt))
+    level-ascending (suc left) x T =
+        rw (level-suc job N W left x T)
+        (ascending-each (job .p) (branch job N W left x T)
+        (λ c. ascending-choose (fits? F N W (length x) T (job .element c)) (opened job N W left x T c) (level-ascending left (x ++ (c ∷ [])) (chosen R N (length x) (job .element c) T)))
+        (λ b c y z l hy hz. order b c y z l (begins b y hy) (begins c z hz)))
+      where
+        begins : (c : ℕ) (z : List ℕ) → In z (branch job N W left x T c) → Goes left (x ++ (c ∷ [])) z
+        begins c z h = level-goes left (x ++ (c ∷ [])) (chosen R N (length x) (job .element c) T) z (choose-in (fits? F N W (length x) T (job .element c)) h .1)
+
+        order : (b c : ℕ) (y z : List ℕ) → b < c → Goes left (x ++ (b ∷ [])) y → Goes left (x ++ (c ∷ [])) z → Before y z
+        order b c y z l g h = rw (g .is, h .is, append-snoc x b (g .after), append-snoc x c (h .after)) (before-append x (g .after) (h .after) l)
+
+    -- a root of Q that begins with x and has the agreements is found
+    level-all : (Q : Curve R) (left : ℕ) (x y : List ℕ) → Spelt (job .p) left y → value (Series R) (polynomial job (x ++ y)) N Q ≡ zeroS R
+        → job .t ≤ agreements job (job .n) (polynomial job (x ++ y)) → In (x ++ y) (level job N W left x (shift (Series R) (polynomial job x) N Q))
+    level-all Q zero x [] s root le =
+        rw (level-zero job N W x (shift (Series R) (polynomial job x) N Q))
+        (in-choose (decLe (job .t) (agreements job (job .n) (polynomial job x))) (rw (append-nil x) at le) (List·Memᴰ·head (append-nil x)))
+    level-all Q zero x (c ∷ y) s root le = let e = s .long in absurd (omega arith)
+    level-all Q (suc left) x [] s root le = let e = s .long in absurd (omega arith)
+    level-all Q (suc left) x (c ∷ y) s root le =
+        rw (level-suc job N W left x (shift (Series R) (polynomial job x) N Q))
+        (in-each (job .p) (branch job N W left x (shift (Series R) (polynomial job x) N Q)) (s .small 0 (omega arith))
+        (in-choose (fits? F N W (length x) (shift (Series R) (polynomial job x) N Q) (job .element c))
+        (root-fits Φ N W (polynomial job x) (polynomial job (c ∷ y)) (length x) Q (rw (← polynomial-append Φ job num x (c ∷ y)) root))
+        (rw (chosen-shift R N (length x) (job .element c) (shift (Series R) (polynomial job x) N Q), shift-shift (series L) (polynomial job x) (mono R (job .element c) (length x)) N Q, ← polynomial-snoc Φ job num x c, ← append-snoc x c y)
+        (level-all Q left (x ++ (c ∷ [])) y (record { long = let e = s .long in omega arith; small = λ i l. s .small (suc i) (omega arith) }) (rw (append-snoc x c y) root) (rw (append-snoc x c y) le)))))
+
+    -- the list, if Q vanishes along every wanted message
+    pub found-list : (Q : Curve R) → Height R N Q → ((g : Seq R) → Wanted job g → value (Series R) g N Q ≡ zeroS R) → IsList job (found job N W Q)
+    found-list Q tall roots =
+        record {
+          ascending = level-ascending (job .k) [] Q;
+          spelt = spelt;
+          wanted = λ x h. record { degree = λ i l. let e = spelt x h .long in polynomial-beyond job num x i (omega arith); agrees = level-goes (job .k) [] Q x h .agrees };
+          all = all;
+        }
+      where
+        spelt : (x : List ℕ) → In x (found job N W Q) → Spelt (job .p) (job .k) x
+        spelt x h = let g = level-goes (job .k) [] Q x h in rw (g .is) (g .spelt)
+
+        none : polynomial job [] ≡ zeroS R
+        none = fun-ext (λ i. num .zero ∙ sym (zeroS-at R i))
+
+        all : (g : Seq R) → Wanted job g → (x : List ℕ) × In x (found job N W Q) × (polynomial job x ≡ g)
+        all g want =
+            let x = spell job num (job .k) g (want .degree) in
+            let T : shift (Series R) (polynomial job []) N Q ≡ Q = rw none (shift-none (series L) N Q (height-below R tall)) in
+            (x .0, rw T at (level-all Q (job .k) [] (x .0) (x .1) (ap (λ (f : Seq R). value (Series R) f N Q) (x .2) ∙ roots g want) (rw (x .2) (want .agrees))), x .2)

@@ -1,0 +1,80 @@
+-- The search's curve in bytes: the byte of each coefficient, and of each coefficient of a slice.
+use mathlib.Core.Path.{_≡_, sym, ap, _∙_, fun-ext}
+use mathlib.Core.Logic.{inr, inl}
+use mathlib.Core.List.{List}
+use Prim.Native.Nat.{ℕ, suc, _+_, _-_, _*_, _≤_, _<_, zero-le}
+use native.Mathlib.Nat.{mul-le-mul}
+use native.Mathlib.Decide.{decLe}
+use native.Mathlib.Omega.{arith}
+use lib.ListN.{length, getD}
+use Rattle.field.specs.Ring.{Ring, RingLaws}
+use Rattle.field.specs.Symbols.{Listed, Element, symbol, symbols}
+use Rattle.field.proofs.SymbolLaws.{symbol-byte, symbol-own, byte-below, symbols-field}
+use Rattle.poly.proofs.BufferLaws.{zero-byte}
+use Rattle.rows.specs.Curves.{Curve, Height, Under}
+use Rattle.rows.specs.Bytes.{slot, curveBytes, HoldsCurve}
+use Rattle.rows.specs.Work.{Fine}
+use Rattle.rows.proofs.Places.{rowsOf-at, rowsOf-boxed, slot-inside, curve-small, in-curve}
+use Rattle.near.specs.Work.{shapeOf, curveOf, sliceOf, Laid}
+use Rattle.near.specs.declared.search.Plan.{Plan}
+use Rattle.near.proofs.Steps.{slice-at, slice-beyond}
+
+-- a coefficient and its byte
+module _ (plan : Plan) (xs : List ℕ) where
+  pub curve-at : {j e : ℕ} → j ≤ plan .l → e ≤ plan .width → curveOf plan xs j e ≡ symbol (plan .p) (getD xs (j * slot (shapeOf plan) + e) 0)
+  curve-at {j} {e} h k = rowsOf-at (shapeOf plan) xs {i = 0} (omega arith) h k ∙ ap (λ (q : ℕ). symbol (plan .p) (getD xs q 0)) (omega arith)
+
+  pub curve-high : {j : ℕ} (e : ℕ) → plan .l < j → curveOf plan xs j e ≡ symbol (plan .p) 0
+  curve-high {j} e h = rowsOf-boxed (shapeOf plan) xs 0 j e (inr (inl h))
+
+  pub curve-wide : (j : ℕ) {e : ℕ} → plan .width < e → curveOf plan xs j e ≡ symbol (plan .p) 0
+  curve-wide j {e} h = rowsOf-boxed (shapeOf plan) xs 0 j e (inr (inr h))
+
+module _ {plan : Plan} {xs : List ℕ} (laid : Laid plan xs) where
+  pub laws : RingLaws (symbols (plan .p) .ring)
+  laws = symbols-field (plan .p) (laid .fine .size) .ring
+
+  pub curve-byte : {j e : ℕ} → j ≤ plan .l → e ≤ plan .width → curveOf plan xs j e .byte ≡ getD xs (j * slot (shapeOf plan) + e) 0
+  curve-byte {j} {e} h k = rw (curve-at plan xs h k) (symbol-own (plan .p) (laid .below (j * slot (shapeOf plan) + e) (slot-inside (shapeOf plan) h k)))
+
+  -- a byte of the curve stands among the bytes, at a number that can be counted
+  pub byte-inside : {j e : ℕ} → j ≤ plan .l → e ≤ plan .width → (j * slot (shapeOf plan) + e < length xs) × (j * slot (shapeOf plan) + e < 2169)
+  byte-inside {j} {e} h k =
+      let a = slot-inside (shapeOf plan) h k in
+      let b = laid .room in
+      let c = curve-small (laid .fine) in
+      (omega arith, omega arith)
+
+  -- the coefficients of a slice
+  module _ (i v j : ℕ) where
+    pub slice-low : v < i * j → sliceOf plan xs i v j .byte ≡ 0
+    slice-low h = rw (slice-beyond laws i v (curveOf plan xs) j h) (zero-byte (plan .p))
+
+    pub slice-wide : i * j ≤ v → plan .width < v - i * j → sliceOf plan xs i v j .byte ≡ 0
+    slice-wide h k = rw (slice-at laws i v (curveOf plan xs) j h, curve-wide plan xs j k) (zero-byte (plan .p))
+
+    pub slice-byte : i * j ≤ v → j ≤ plan .l → v - i * j ≤ plan .width → sliceOf plan xs i v j .byte ≡ getD xs (j * slot (shapeOf plan) + (v - i * j)) 0
+    slice-byte h g k = rw (slice-at laws i v (curveOf plan xs) j h) (curve-byte g k)
+
+  -- the power of x that x^i y for y brings to slot j can be counted
+  pub lift-small : {i j : ℕ} → i < plan .k → j ≤ plan .l → i * j ≤ 248
+  lift-small {i} {j} h k = let a = laid .fine .lift in let b = laid .fine .high in mul-le-mul {n₁ = i} {m₁ = j} {n₂ = 31} {m₂ = 8} (omega arith) (omega arith)
+
+-- bytes that hold a curve within these bounds are that curve
+module _ (plan : Plan) (xs : List ℕ) (Q : Curve (symbols (plan .p) .ring)) (holds : HoldsCurve (shapeOf plan) xs Q) (tall : Height (symbols (plan .p) .ring) (suc (plan .l)) Q) (light : Under (symbols (plan .p) .ring) (plan .k - 1) (suc (plan .width)) 0 Q) where
+  pub holds-curve : curveOf plan xs ≡ Q
+  holds-curve = fun-ext (λ j. fun-ext (λ e. go j e (decLe j (plan .l)) (decLe e (plan .width))))
+    where
+      go : (j e : ℕ) → Dec (j ≤ plan .l) → Dec (e ≤ plan .width) → curveOf plan xs j e ≡ Q j e
+      go j e (yes h) (yes k) = rw (curve-at plan xs h k, holds j e h k) (symbol-byte (plan .p) (Q j e))
+      go j e (yes h) (no k) = curve-wide plan xs j (omega arith) ∙ sym (light j e (omega arith) (λ _. zero-le))
+      go j e (no h) k = curve-high plan xs e (omega arith) ∙ sym (tall j e (omega arith))
+
+  pub holds-laid : Fine (shapeOf plan) → curveBytes (shapeOf plan) ≤ length xs → Laid plan xs
+  holds-laid fine room =
+      record {
+        fine = fine;
+        room = room;
+        below = λ q h. let r = in-curve (shapeOf plan) h in rw (r .is, holds (r .power) (r .degree) (r .low) (r .short)) (byte-below (fine .size) (Q (r .power) (r .degree)));
+        light = rw holds-curve light;
+      }

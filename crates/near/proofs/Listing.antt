@@ -1,0 +1,269 @@
+-- The job list, put together: what an accepted list knows of its request; start, one turn and finish give the curve of demand 2; on its bytes
+-- the search may run; and what the search leaves is the answer.
+use mathlib.Core.Path.{_≡_, refl, sym, ap, _∙_, fun-ext}
+use mathlib.Core.Logic.{inl, inr}
+use mathlib.Core.List.{List}
+use mathlib.Core.HLevel.{dec→stable}
+use Prim.Native.Nat.{ℕ, zero, suc, _-_, _*_, _≤_, _<_, zero-le}
+use native.Mathlib.Decide.{decLe, ℕ-discrete}
+use native.Mathlib.Omega.{arith}
+use lib.ListN.{length}
+use Rattle.field.specs.Symbols.{symbols}
+use Rattle.field.specs.Ring.{Ring}
+use Rattle.field.specs.Field.{FieldLaws}
+use Rattle.field.proofs.SymbolLaws.{symbols-field, symbol-byte, byte-below}
+use Rattle.poly.specs.Polynomials.{locator}
+use Rattle.poly.specs.Encode.{symbolsOf}
+use Rattle.poly.specs.Table.{First, NotListed, BadCount, BadDegree}
+use Rattle.poly.proofs.TableLaws.{first-determined, first-past}
+use Rattle.poly.proofs.Interpolation.{interpolate}
+use Rattle.poly.proofs.Interpolating.{places-distinct}
+use Rattle.rows.specs.Bytes.{shape, curveBytes, rowsOf, Untouched}
+use Rattle.rows.specs.Jobs.{BadHeights, startTable, BadNote, size, count, degree, heights, row, HasStarted, Goes, HasTurned, HasFinished}
+use Rattle.rows.specs.Curves.{Curve, Under}
+use Rattle.rows.specs.Start.{startRow}
+use Rattle.rows.specs.Demands.{Request, ringFor, shapeFor, noteFor, updatesBound, Begun, started, turned}
+use Rattle.rows.specs.declared.Note.{Note}
+use Rattle.rows.specs.declared.Started.{Started}
+use Rattle.rows.specs.declared.Turned.{Turned}
+use Rattle.rows.specs.declared.Finished.{Finished}
+use Rattle.rows.proofs.Formula.{formula-most}
+use Rattle.rows.proofs.Ends.{end-alike}
+use Rattle.rows.proofs.Runs.{fresh-enters}
+use Rattle.rows.proofs.Boxes.{holds-row}
+use Rattle.rows.proofs.Passing.{begins-same, begins-start}
+use Rattle.rows.proofs.Demands.{demand-3, demand-2}
+use Rattle.rows.proofs.Notes.{good-note, good-fine}
+use Rattle.rows.proofs.Accepted.{Accepted, start-accepted, accepted-note}
+use Rattle.rows.proofs.Places.{rows-small, in-curve}
+use Rattle.rows.proofs.Leads.{under-mono}
+use Rattle.near.specs.Job.{workingRoom, listTable, Zeroed, refusal, RuleUpdates, Lists, HasListed}
+use Rattle.near.specs.Lists.{task, IsList}
+use Rattle.near.specs.Search.{found}
+use Rattle.near.specs.Work.{curveOf, jobOf, planOf, Laid, Runs, Ran, FoundCurve}
+use Rattle.near.specs.declared.Near.{Near}
+use Rattle.near.specs.declared.Weighed.{Weighed}
+use Rattle.near.specs.declared.search.Plan.{Plan}
+use Rattle.near.proofs.Messages.{symbols-numbered}
+use Rattle.near.proofs.Answer.{search-is-list, list-at-most, smallest-weight}
+use Rattle.near.proofs.Laying.{curve-at, curve-high, curve-wide}
+
+pub record Taken (p : ℕ) (points word : List ℕ) (k m l t : ℕ) (room messages : List ℕ) : Type 0 where
+  pub start : First (startTable p points word k m l room) 0
+  pub accepted : Accepted p points word k m l room
+  pub some : 1 ≤ t
+  pub most : t ≤ length points
+  pub working : workingRoom ≤ length room
+  pub enough : l * k ≤ length messages
+
+pub list-taken : (p : ℕ) (points word : List ℕ) (k m l t : ℕ) (room messages : List ℕ) → First (listTable p points word k m l t room messages) 0 → Taken p points word k m l t room messages
+list-taken p points word k m l t room messages first =
+    let listed = first-past first (λ e. omega arith) in
+    let counted = first-past (listed .1) (λ e. omega arith) in
+    let spelt = first-past (counted .1) (λ e. omega arith) in
+    let low = first-past (spelt .1) (λ e. omega arith) in
+    let high = first-past (low .1) (λ e. omega arith) in
+    let large = first-past (high .1) (λ e. omega arith) in
+    let repeated = first-past (large .1) (λ e. omega arith) in
+    let wanted = first-past (repeated .1) (λ e. omega arith) in
+    let short = first-past (wanted .1) (λ e. omega arith) in
+    let few : t < 1 → ⊥ = λ h. wanted .0 (inl h) in
+    let many : length points < t → ⊥ = λ h. wanted .0 (inr h) in
+    let narrow : length room < workingRoom → ⊥ = λ h. short .0 (inl h) in
+    let tight : length messages < l * k → ⊥ = λ h. short .0 (inr h) in
+    let fine = good-fine (good-note {note = note} (good (listed .0) (counted .0) (low .0) (high .0))) in
+    let room-enough = rows-small fine in
+    let start : First (startTable p points word k m l room) 0 =
+    inr (listed .0, inr (counted .0, inr (spelt .0, inr (low .0, inr (high .0, inr (large .0, inr (repeated .0, inr (λ h. omega arith, refl)))))))) in
+    record { start = start; accepted = start-accepted start refl; some = omega arith; most = omega arith; working = omega arith; enough = omega arith }
+  where
+    note : Note
+    note = record { p = p; n = length points; k = k; m = m; l = l; r = 1 }
+
+    good : (NotListed p → ⊥) → (BadCount p (length points) → ⊥) → (BadDegree (length points) k → ⊥) → (BadHeights m l → ⊥) → BadNote note → ⊥
+    good a b c d (size h) = a h
+    good a b c d (count h) = b h
+    good a b c d (degree h) = c h
+    good a b c d (heights h) = d h
+    good a b c d (row (inl h)) = omega arith
+    good a b c d (row (inr h)) = omega arith
+
+-- more updates than are ever made
+abbrev ample : ℕ
+ample = 65535
+
+-- start, one turn with an ample allowance, and finish
+module _ {p : ℕ} {points word : List ℕ} {k m l : ℕ} {room rows new lent curve : List ℕ} {start : Started} {turn : Turned} {finish : Finished}
+    (first : First (startTable p points word k m l room) 0) (began : HasStarted p points word k m l room rows start) (went : HasTurned (start .note) ample rows new turn)
+    (ended : HasFinished (turn .note) new lent curve finish) where
+  abbrev q : Request
+  q = record { p = p; points = points; word = word; k = k; m = m; l = l }
+
+  accepted : Accepted p points word k m l room
+  accepted = start-accepted first refl
+
+  begun : Begun q room rows start
+  begun = (began, first-determined (startTable p points word k m l room) (start .number) 0 (began .first) first)
+
+  enough : updatesBound q ≤ ample
+  enough =
+      let size = accepted .places .size in
+      let most = accepted .places .count in
+      let h = accepted .heights in
+      let x = formula-most (length points) k m l (omega arith) (accepted .low) (h .some) (h .most) (h .high) in
+      omega arith
+
+  turned-one : HasTurned (noteFor q 1) ample rows new turn
+  turned-one = rw (begun .0 .note (begun .1)) at went
+
+  goes : Goes (noteFor q 1) ample rows new turn
+  goes = turned-one .goes (dec→stable (ℕ-discrete (turned-one .entry) 0) (λ n. n (sym (turned-one .refused n .0) ∙ demand-3 q (started begun) .accepted ample new turn went)))
+
+  at-end : goes .outcome .row ≡ suc l
+  at-end = sym (ap (λ (x : Note). x .r) (goes .next)) ∙ demand-3 q (turned ample (started begun) went) .finished (omega (arith, enough))
+
+  updates-rule : RuleUpdates p points word k m l (turn .updates)
+  updates-rule =
+      let Φ = symbols-field p (accepted .places .size) in
+      let points-apart = places-distinct (accepted .places) in
+      let low = accepted .low in
+      let (h, thr) = interpolate Φ (length points) (symbolsOf p points) (symbolsOf p word) points-apart in
+      let b = begins-start Φ points-apart (omega arith) (accepted .degree) (accepted .heights .order) thr in
+      let first : ℕ → Curve (ringFor q) = startRow (ringFor q) m (locator (ringFor q) (length points) (symbolsOf p points)) h in
+      let same : (i : ℕ) → i ≤ l → rowsOf (shapeFor q) rows i ≡ first i = λ i g.
+      holds-row (shapeFor q) rows first (begun .0 .rows (begun .1) h thr) i g (λ j e x. b .fresh i g .height j e (omega arith)) (b .fresh i g .within) in
+      let (o, t, e, u) = end-alike Φ (fresh-enters Φ (begins-same Φ same b .fresh)) (λ i g. sym (same i g)) (goes .turn) at-end in
+      record { h = h; through = thr; allowance = ample; outcome = o; turn = t; finished = e; are = goes .updates ∙ sym u }
+
+  pub curve-found : curveBytes (shapeFor q) ≤ length lent → FoundCurve p points word k m l room new lent curve (record { updates = turn .updates; weight = finish .weight })
+  curve-found fits =
+      let hands = demand-2 q begun enough went ended fits in
+      let small = rows-small (good-fine (accepted-note accepted)) in
+      let a = begun .0 .rest in
+      let b = turned-one .rest in
+      record {
+        curve = hands .Q;
+        smallest = hands .smallest;
+        bytes = hands .bytes;
+        long = ended .rest .long;
+        weight-is = hands .weight;
+        updates-are = updates-rule;
+        rest = record { long = b .long ∙ a .long; same = λ s g. b .same s (omega arith) ∙ a .same s (omega arith) };
+      }
+
+-- on the curve's bytes the search may run where m t is above the weight, and it gives the list
+module _ {p : ℕ} {points word : List ℕ} {k m l t : ℕ} {room cleared messages lent bytes : List ℕ} {back : Weighed}
+    (taken : Taken p points word k m l t room messages) (f : FoundCurve p points word k m l room cleared lent bytes back) (enough : curveBytes (shape p (length points) k m l) ≤ length lent) where
+  abbrev plan : Plan
+  plan = planOf p (length points) k m l t
+
+  abbrev R : Ring
+  R = symbols p .ring
+
+  abbrev Q : Curve R
+  Q = f .curve
+
+  a : Accepted p points word k m l room
+  a = taken .accepted
+
+  Φ : FieldLaws (symbols p)
+  Φ = symbols-field p (a .places .size)
+
+  light : Under R (k - 1) (suc (plan .width)) zero Q
+  light =
+      let s = f .smallest in
+      let w = smallest-weight Φ (places-distinct (a .places)) (a .heights .order) s in
+      under-mono R (k - 1) (s .weight) (suc (s .power)) (suc (plan .width)) zero Q (omega arith) (λ h. absurd (omega arith)) (s .lead .rest)
+
+  curve-is : curveOf plan bytes ≡ Q
+  curve-is = fun-ext (λ j. fun-ext (λ e. go j e (decLe j l) (decLe e (plan .width))))
+    where
+      go : (j e : ℕ) → Dec (j ≤ l) → Dec (e ≤ plan .width) → curveOf plan bytes j e ≡ Q j e
+      go j e (yes h) (yes g) = rw (curve-at plan bytes h g, f .bytes j e h g) (symbol-byte p (Q j e))
+      go j e (no h) g = curve-high plan bytes e (omega arith) ∙ sym (f .smallest .member .height j e (omega arith))
+      go j e (yes h) (no g) = curve-wide plan bytes j (omega arith) ∙ sym (light j e (omega arith) (λ _. zero-le))
+
+  laid : Laid plan bytes
+  laid =
+      let S = shape p (length points) k m l in
+      record {
+        fine = good-fine (accepted-note a);
+        room = rw (f .long) enough;
+        below = λ s h. let c = in-curve S h in rw (c .is, f .bytes (c .power) (c .degree) (c .low) (c .short)) (byte-below (a .places .size) (Q (c .power) (c .degree)));
+        light = rw curve-is light;
+      }
+
+  -- the curve's weight is at hand as the byte that interpolation gives
+  module _ (vouched : back .weight < m * t) where
+    above : f .smallest .weight < m * t
+    above = rw (f .weight-is) at vouched
+
+    abbrev list : List (List ℕ)
+    list = found (jobOf plan points word) (suc l) (suc (plan .width)) Q
+
+    exactly : IsList (task p points word k t) list
+    exactly = search-is-list Φ (task p points word k t) (symbols-numbered (a .places .size)) (places-distinct (a .places)) (f .smallest .member) (f .smallest .lead) above (suc (plan .width))
+
+    few : length list ≤ l
+    few = list-at-most Φ (task p points word k t) (symbols-numbered (a .places .size)) (places-distinct (a .places)) (f .smallest .member) (f .smallest .lead) above list exactly
+
+    pub search-runs : Runs plan points word bytes messages
+    search-runs =
+        let low = a .low in
+        record {
+          received = record { some = omega arith; size = a .places .size; same = a .places .same; points-below = a .places .points-below; word-below = a .places .word-below };
+          laid = laid;
+          few = rw curve-is few;
+          room = taken .enough;
+        }
+
+    pub search-lists : {after : List ℕ} {r : ℕ} → Ran k (found (jobOf plan points word) (suc l) (suc (plan .width)) (curveOf plan bytes)) messages after r
+        → Lists p points word k m l t (f .smallest .weight) messages after (record { number = 0; count = r; updates = back .updates; weight = back .weight })
+    search-lists {after} {r} ran = go (rw curve-is at ran)
+      where
+        go : Ran k list messages after r → Lists p points word k m l t (f .smallest .weight) messages after (record { number = 0; count = r; updates = back .updates; weight = back .weight })
+        go ran =
+            record {
+              list = list;
+              exactly = exactly;
+              few = few;
+              done = refl;
+              count = ran .count;
+              updates-are = f .updates-are;
+              weight-is = f .weight-is;
+              written = ran .written;
+              rest = ran .rest;
+            }
+
+-- the bytes were worked in, and then cleared
+zeroed-after : {size : ℕ} {before used cleared : List ℕ} → Untouched size before used → Zeroed size used cleared → Zeroed size before cleared
+zeroed-after u z = record { zero = z .zero; rest = record { long = z .rest .long ∙ u .long; same = λ q h. z .rest .same q h ∙ u .same q h } }
+
+-- the three ways in which the job ends
+module _ {p : ℕ} {points word : List ℕ} {k m l t : ℕ} {room messages : List ℕ} where
+  pub list-refuses : {number : ℕ} → First (listTable p points word k m l t room messages) number → (number ≡ 0 → ⊥) → HasListed p points word k m l t room room messages messages (refusal number)
+  list-refuses {number} first other = record { entry = number; first = first; answers = λ z. absurd (other z); refused = λ _. (refl, refl, refl) }
+
+  module _ {used cleared lent bytes : List ℕ} {back : Weighed} (first : First (listTable p points word k m l t room messages) 0) (f : FoundCurve p points word k m l room used lent bytes back)
+      (z : Zeroed workingRoom used cleared) where
+    pub list-unvouched : m * t ≤ back .weight → HasListed p points word k m l t room cleared messages messages (refusal 13)
+    list-unvouched le =
+        let e = f .weight-is in
+        record {
+          entry = 0;
+          first = first;
+          answers = λ _.
+              record { curve = f .curve; smallest = f .smallest; zeroed = zeroed-after (f .rest) z; unvouched = λ _. (refl, refl); lists = λ h. absurd (omega arith) };
+          refused = λ n. absurd (n refl);
+        }
+
+    pub list-answers : {after : List ℕ} {near : Near} → back .weight < m * t → Lists p points word k m l t (f .smallest .weight) messages after near → HasListed p points word k m l t room cleared messages after near
+    list-answers lt lists =
+        let e = f .weight-is in
+        record {
+          entry = 0;
+          first = first;
+          answers = λ _.
+              record { curve = f .curve; smallest = f .smallest; zeroed = zeroed-after (f .rest) z; unvouched = λ h. absurd (omega arith); lists = λ _. lists };
+          refused = λ n. absurd (n refl);
+        }

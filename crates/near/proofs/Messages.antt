@@ -1,0 +1,93 @@
+-- Messages as numbers and as polynomials: every polynomial of degree below k is spelt by k numbers, and by no others.
+use mathlib.Core.Path.{_≡_, refl, sym, ap, ap₂, _∙_, fun-ext}
+use mathlib.Core.List.{List, [], _∷_, _++_}
+use Prim.Native.Nat.{ℕ, zero, suc, _+_, _≤_, _<_}
+use native.Mathlib.Nat.{add-zero as n-add-zero, mod-lt}
+use native.Mathlib.Omega.{arith}
+use lib.ListN.{length, getD, List·getD-append, List·getD-eq-default}
+use lib.Seq.{ext-getD, getD-append-add}
+use Rattle.field.specs.Ring.{Ring, RingLaws}
+use Rattle.field.specs.Field.{Field, FieldLaws}
+use Rattle.field.specs.Symbols.{Listed, Element, symbol, symbols}
+use Rattle.field.proofs.RingLaws.{add-zero, zero-add, one-mul}
+use Rattle.field.proofs.SymbolLaws.{symbol-byte, symbol-own}
+use Rattle.poly.specs.Polynomials.{Seq, tail, Series, constS, Below}
+use Rattle.poly.proofs.Series.{addS-at}
+use Rattle.poly.proofs.Constants.{constS-zero, constS-suc}
+use Rattle.poly.proofs.Parts.{parts-ext}
+use Rattle.rows.specs.Turns.{mono}
+use Rattle.near.specs.Lists.{Task, Numbering, polynomial, Spelt}
+use Rattle.near.proofs.Monomials.{mono-zero, mono-mul-at, mono-mul-low, mono-mono}
+
+pub spelt-nil : {p : ℕ} → Spelt p 0 []
+spelt-nil = record { long = refl; small = λ i l. absurd (omega arith) }
+
+pub spelt-cons : {p k c : ℕ} {x : List ℕ} → c < p → Spelt p k x → Spelt p (suc k) (c ∷ x)
+spelt-cons {p} {k} {c} {x} l s = record { long = ap suc (s .long); small = small }
+  where
+    small : (i : ℕ) → i < suc k → getD (c ∷ x) i 0 < p
+    small zero q = l
+    small (suc i) q = s .small i (omega arith)
+
+-- the ten fields
+pub symbols-numbered : {p : ℕ} → Listed p → Numbering (symbols p) p (symbol p)
+symbols-numbered {p} h =
+    record {
+      zero = refl;
+      all = λ e. (e .byte, rw (sym (e .own)) (mod-lt (e .byte) (omega arith)), symbol-byte p e);
+      once = λ b c l k e. sym (symbol-own p l) ∙ ap (λ (s : Element p). s .byte) e ∙ symbol-own p k;
+    }
+
+module _ {F : Field} (job : Task F) (num : Numbering F (job .p) (job .element)) where
+  pub polynomial-same : {k : ℕ} (x y : List ℕ) → Spelt (job .p) k x → Spelt (job .p) k y → polynomial job x ≡ polynomial job y → x ≡ y
+  polynomial-same x y sx sy e =
+      let lx = sx .long in
+      let ly = sy .long in
+      ext-getD 0 x y (omega arith) (λ i l. num .once (getD x i 0) (getD y i 0) (sx .small i (omega arith)) (sy .small i (omega arith)) (ap (λ (g : Seq (F .ring)). g i) e))
+
+  pub spell : (k : ℕ) (g : Seq (F .ring)) → Below (F .ring) k g → (x : List ℕ) × Spelt (job .p) k x × (polynomial job x ≡ g)
+  spell zero g h = ([], spelt-nil, fun-ext (λ i. num .zero ∙ sym (h i (omega arith))))
+  spell (suc k) g h =
+      let a = num .all (g 0) in
+      let b = spell k (tail (F .ring) g) (λ i l. h (suc i) (omega arith)) in
+      (a .0 ∷ b .0, spelt-cons (a .1) (b .1), fun-ext (at (a .0) (b .0) (a .2) (b .2)))
+    where
+      at : (c : ℕ) (x : List ℕ) → job .element c ≡ g 0 → polynomial job x ≡ tail (F .ring) g → (i : ℕ) → polynomial job (c ∷ x) i ≡ g i
+      at c x e f zero = e
+      at c x e f (suc i) = ap (λ (g : Seq (F .ring)). g i) f
+
+  pub polynomial-beyond : (x : List ℕ) (i : ℕ) → length x ≤ i → polynomial job x i ≡ F .ring .𝟘
+  polynomial-beyond x i l = ap (job .element) (List·getD-eq-default x 0 l) ∙ num .zero
+
+module _ {F : Field} (Φ : FieldLaws F) (job : Task F) (num : Numbering F (job .p) (job .element)) where
+  abbrev R : Ring
+  R = F .ring
+
+  abbrev L : RingLaws R
+  L = Φ .ring
+
+  open Ring R using (𝟙, plus as _⊕_)
+  open Ring (Series R) using (plus as _⊞_, times as _⊠_)
+
+  infixl 65 _⊕_ _⊞_
+  infixl 70 _⊠_
+  -- the symbols of x, and then those of y
+  pub polynomial-append : (x y : List ℕ) → polynomial job (x ++ y) ≡ mono R 𝟙 (length x) ⊠ polynomial job y ⊞ polynomial job x
+  polynomial-append x y =
+      parts-ext L (length x) (polynomial job (x ++ y)) (Y ⊞ polynomial job x)
+      (λ j l. ap (job .element) (List·getD-append x y 0 j l)
+      ∙ sym (addS-at R Y (polynomial job x) j ∙ rw (mono-mul-low L 𝟙 (length x) j (polynomial job y) l) (zero-add L (polynomial job x j))))
+      (λ i. ap (job .element) (getD-append-add x y i 0)
+      ∙ sym (addS-at R Y (polynomial job x) (length x + i)
+      ∙ ap₂ _⊕_ (mono-mul-at L 𝟙 (length x) i (polynomial job y) ∙ one-mul L (polynomial job y i)) (polynomial-beyond job num x (length x + i) (omega arith))
+      ∙ add-zero L (polynomial job y i)))
+    where
+      Y : Seq R
+      Y = mono R 𝟙 (length x) ⊠ polynomial job y
+
+  pub polynomial-snoc : (x : List ℕ) (c : ℕ) → polynomial job (x ++ (c ∷ [])) ≡ mono R (job .element c) (length x) ⊞ polynomial job x
+  polynomial-snoc x c = polynomial-append x (c ∷ []) ∙ rw (fun-ext one, ← mono-zero R (job .element c), mono-mono L (length x) (job .element c) 0, n-add-zero (length x))
+    where
+      one : (i : ℕ) → polynomial job (c ∷ []) i ≡ constS R (job .element c) i
+      one zero = sym (constS-zero R (job .element c))
+      one (suc i) = num .zero ∙ sym (constS-suc R (job .element c) i)

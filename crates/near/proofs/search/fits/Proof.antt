@@ -1,0 +1,88 @@
+-- `fits` meets its contract: the sum is the value of the slots from j on. Assumes nothing.
+use mathlib.Core.Path.{_≡_, sym, _∙_}
+use Prim.Native.Nat.{suc, _-_, _≤_}
+use native.Mathlib.Numerals.{add-one}
+use borrow.Author.Tests.{eqb-true, eqb-false}
+use borrow.Author.Needs.{needs}
+use Rattle.field.specs.Symbols.{symbol, symbols}
+use Rattle.field.proofs.SymbolLaws.{byte-below}
+use Rattle.field.proofs.OperationLaws.{timesBytes-below}
+use Rattle.poly.specs.Polynomials.{value}
+use Rattle.near.specs.Work.{sliceOf}
+use Rattle.near.proofs.Tests.{byte-zero, zero-is, horner, horner-none, horner-more, horner-all}
+use Rattle.near.proofs.search.fits.Statement.{statement}
+use Rattle.near.proofs.search.fits.Tie as tie
+
+abbrev Inv-loop : tie.InvT-loop
+Inv-loop curve plan i low c p x sum₀ j₀ sum j =
+    (j ≤ suc (plan .l)) × (sum .value ≡ horner (plan .p) c (suc (plan .l)) (sliceOf plan curve i low) j .byte)
+
+abbrev μ-loop : tie.MeasureT-loop
+μ-loop curve plan i low c p x sum₀ j₀ sum j = j
+
+add-j : tie.Need-add-j Inv-loop μ-loop
+add-j c = let h = c .before .before .pre .laid .fine .high in search needs
+
+loop-holds : tie.Need-loop-holds Inv-loop μ-loop
+loop-holds c =
+    let s = c .before .before .args in
+    (search needs, rw add-one (sym (byte-zero (s .plan .p) (horner-none (s .plan .p) (s .c) (suc (s .plan .l)) (sliceOf (s .plan) (s .curve .now) (s .i) (s .low))))))
+
+sub-j : tie.Need-sub-j Inv-loop μ-loop
+sub-j c = search needs
+
+symbol-at-requires : tie.Need-symbol-at-requires Inv-loop μ-loop
+symbol-at-requires c κs = search needs
+
+product-requires : tie.Need-product-requires Inv-loop μ-loop
+product-requires c κs =
+    let l = c .before .before in
+    let s = l .before .before .before in
+    record { size = s .pre .laid .fine .size; left = s .pre .small; right = rw (l .loop .inv .1) (byte-below (s .pre .laid .fine .size) (horner (s .args .plan .p) (s .args .c) (suc (s .args .plan .l)) (sliceOf (s .args .plan) (s .args .curve .now) (s .args .i) (s .args .low)) (l .loop .j))) }
+
+sum-requires : tie.Need-sum-requires Inv-loop μ-loop
+sum-requires c κs =
+    let l = c .before .before .before in
+    let s = l .before .before .before in
+    record {
+      size = s .pre .laid .fine .size;
+      left = rw (c .before .symbol-at .ensures) (byte-below (s .pre .laid .fine .size) (sliceOf (s .args .plan) (s .args .curve .now) (s .args .i) (s .args .low) (l .loop .j - 1)));
+      right = rw (c .product .ensures) (timesBytes-below (s .pre .laid .fine .size) (s .args .c) (l .loop .sum .value));
+    }
+
+loop-less : tie.Need-loop-less Inv-loop μ-loop
+loop-less c = search needs
+
+loop-again : tie.Need-loop-again Inv-loop μ-loop
+loop-again c =
+    let l = c .before .before .before .before in
+    let s = l .before .before .before .args in
+    (search needs, c .sum .ensures ∙ rw (c .before .product .ensures, c .before .before .symbol-at .ensures, l .loop .inv .1) (horner-more (s .plan .p) (s .c) (suc (s .plan .l)) (sliceOf (s .plan) (s .curve .now) (s .i) (s .low)) (l .loop .j) (search needs) (search needs)))
+
+returns : tie.Need-returns Inv-loop μ-loop
+returns c =
+    let l = c .before .before in
+    let s = l .before .before .before .args in
+    let z : l .loop .j ≡ 0 = search needs in
+    let f = sliceOf (s .plan) (s .curve .now) (s .i) (s .low) in
+    let e : l .loop .sum .value ≡ value (symbols (s .plan .p) .ring) (symbol (s .plan .p) (s .c)) (suc (s .plan .l)) f .byte = l .loop .inv .1 ∙ rw (z, horner-all (s .plan .p) (s .c) (suc (s .plan .l)) f) in
+    record {
+      holds = λ h. zero-is (s .plan .p) (sym e ∙ eqb-true (l .loop .sum .value) 0 h);
+      fails = λ h d. eqb-false (l .loop .sum .value) 0 h (e ∙ byte-zero (s .plan .p) d);
+    }
+
+pub fits-spec : {M : Type 1} → statement M
+fits-spec =
+    tie.close
+    (tie.spec
+    Inv-loop
+    μ-loop
+    add-j
+    loop-holds
+    sub-j
+    symbol-at-requires
+    product-requires
+    sum-requires
+    loop-less
+    loop-again
+    returns)

@@ -1,0 +1,94 @@
+-- The job list: when it refuses, and what it leaves.
+--   workingRoom        the bytes of working room that it asks
+--   listTable          refusals 1 to 9
+--   flat list          the messages one after the other
+--   Zeroed size xs ys  ys is xs with its first `size` bytes zero
+--   TheCurve Q         Q is the curve of demand 2: of those that pass through the received points, the monic nonzero one with the
+--                      smallest leading term
+--   RuleUpdates        how many updates the rule makes from the starting rows to the end
+--   Lists              what an answered list hands back and leaves in the message room: exactly the messages wanted
+--   Answers            what an accepted list leaves: with w the curve's weight, 13 where m t is not above w, and else the list
+--   HasListed          what the job hands back and leaves in the lent bytes
+use mathlib.Core.Path.{_≡_}
+use mathlib.Core.Logic.{_⊎_}
+use mathlib.Core.List.{List, [], _∷_, _++_}
+use Prim.Native.Nat.{ℕ, suc, _-_, _*_, _≤_, _<_}
+use lib.ListN.{length, getD, take}
+use Rattle.field.specs.Symbols.{symbols}
+use Rattle.poly.specs.Polynomials.{Seq, locator, Through}
+use Rattle.poly.specs.Encode.{symbolsOf}
+use Rattle.poly.specs.Table.{Refusal, First, NotListed, BadCount, BadDegree, TooLarge, Repeated, TooShort}
+use Rattle.rows.specs.Curves.{Curve, Smallest}
+use Rattle.rows.specs.Multiplicity.{Passing}
+use Rattle.rows.specs.Start.{startRow}
+use Rattle.rows.specs.Turns.{Outcome, Turn}
+use Rattle.rows.specs.Bytes.{Untouched}
+use Rattle.rows.specs.Jobs.{BadHeights}
+use Rattle.near.specs.Lists.{task, IsList}
+use Rattle.near.specs.declared.Near.{Near}
+
+abbrev pub workingRoom : ℕ
+workingRoom = 32768
+
+abbrev pub listTable : ℕ → List ℕ → List ℕ → ℕ → ℕ → ℕ → ℕ → List ℕ → List ℕ → List Refusal
+listTable p points word k m l t room messages =
+    record { number = 1; applies = NotListed p } ∷
+    record { number = 2; applies = BadCount p (length points) } ∷
+    record { number = 3; applies = length word ≡ length points → ⊥ } ∷
+    record { number = 4; applies = BadDegree (length points) k } ∷
+    record { number = 5; applies = BadHeights m l } ∷
+    record { number = 6; applies = TooLarge p points ⊎ TooLarge p word } ∷
+    record { number = 7; applies = Repeated points } ∷
+    record { number = 8; applies = (t < 1) ⊎ (length points < t) } ∷
+    record { number = 9; applies = TooShort workingRoom room ⊎ TooShort (l * k) messages } ∷
+    []
+
+abbrev pub flat : List (List ℕ) → List ℕ
+flat [] = []
+flat (x ∷ list) = x ++ flat list
+
+pub record Zeroed (size : ℕ) (before after : List ℕ) : Type 0 where
+  pub zero : (q : ℕ) → q < size → getD after q 0 ≡ 0
+  pub rest : Untouched size before after
+
+-- a refusal hands back its number and zeros
+abbrev pub refusal : ℕ → Near
+refusal number = record { number = number; count = 0; updates = 0; weight = 0 }
+
+module _ (p : ℕ) (points word : List ℕ) (k m l : ℕ) where
+  abbrev pub TheCurve : Curve (symbols p .ring) → Type 0
+  TheCurve = Smallest (symbols p .ring) (k - 1) (Passing (symbols p .ring) (length points) m l (symbolsOf p points) (symbolsOf p word))
+
+  pub record RuleUpdates (updates : ℕ) : Type 0 where
+    pub h : Seq (symbols p .ring)
+    pub through : Through (symbols p .ring) (length points) (symbolsOf p points) (symbolsOf p word) h
+    pub allowance : ℕ
+    pub outcome : Outcome (symbols p)
+    pub turn : Turn (symbols p) (k - 1) l allowance (startRow (symbols p .ring) m (locator (symbols p .ring) (length points) (symbolsOf p points)) h) 1 outcome
+    pub finished : outcome .row ≡ suc l
+    pub are : updates ≡ outcome .updates
+
+  module _ (t : ℕ) where
+    pub record Lists (weight : ℕ) (before after : List ℕ) (back : Near) : Type 0 where
+      pub list : List (List ℕ)
+      pub exactly : IsList (task p points word k t) list
+      pub few : length list ≤ l
+      pub done : back .number ≡ 0
+      pub count : back .count ≡ length list
+      pub updates-are : RuleUpdates (back .updates)
+      pub weight-is : back .weight ≡ weight
+      pub written : take (length list * k) after ≡ flat list
+      pub rest : Untouched (length list * k) before after
+
+    pub record Answers (room-before room-after before after : List ℕ) (back : Near) : Type 0 where
+      pub curve : Curve (symbols p .ring)
+      pub smallest : TheCurve curve
+      pub zeroed : Zeroed workingRoom room-before room-after
+      pub unvouched : m * t ≤ smallest .weight → (back ≡ refusal 13) × (after ≡ before)
+      pub lists : smallest .weight < m * t → Lists (smallest .weight) before after back
+
+    pub record HasListed (room-before room-after before after : List ℕ) (back : Near) : Type 0 where
+      pub entry : ℕ
+      pub first : First (listTable p points word k m l t room-before before) entry
+      pub answers : entry ≡ 0 → Answers room-before room-after before after back
+      pub refused : (entry ≡ 0 → ⊥) → (back ≡ refusal entry) × (room-after ≡ room-before) × (after ≡ before)

@@ -1,0 +1,5 @@
+pub mod Lists
+pub mod Search
+pub mod Examples
+pub mod Job
+pub mod Work

@@ -1,0 +1,79 @@
+-- The messages near a received word. A message is k symbols, constant first, that is, a polynomial of degree below k. All is said over
+-- any field whose elements are numbered: in the field of the numbers modulo p the elements are symbol p 0, .., symbol p (p-1).
+--   Task F                  what is asked: the word received at n points, messages of k symbols, t agreements; and the numbers of symbols
+--   task p points word k t  the task that bytes set, over the symbols of p
+--   Numbering F p element   element 0 is zero, and each element of the field is element c for one c below p, and for no other below p
+--   polynomial job x        the polynomial whose coefficients have the numbers x, constant first
+--   Spelt p k x             x is k numbers below p
+--   agreements job n g      at how many of the first n places g takes at the point the value received
+--   Wanted job g            g has degree below k and at least t agreements
+--   In x list               x is on the list
+--   Before x y              where x and y first differ, from the constant up, x has the smaller number
+--   Ascending list          each message is before all that follow it, so none is there twice
+--   IsList job list         on the list are the messages wanted, all of them and no others, in ascending order
+use mathlib.Core.Path.{_≡_}
+use mathlib.Core.Logic.{_⊎_}
+use mathlib.Core.List.{List, [], _∷_, List·Memᴰ}
+use Prim.Native.Nat.{ℕ, zero, suc, _+_, _≤_, _<_}
+use lib.ListN.{length, getD}
+use Rattle.field.specs.Field.{Field}
+use Rattle.field.specs.Symbols.{symbol, symbols}
+use Rattle.poly.specs.Polynomials.{Seq, Below, value}
+use Rattle.poly.specs.Encode.{symbolsOf}
+
+pub record Task (F : Field) : Type 0 where
+  pub p : ℕ
+  pub element : ℕ → F .ring .Car
+  pub n : ℕ
+  pub point : ℕ → F .ring .Car
+  pub received : ℕ → F .ring .Car
+  pub k : ℕ
+  pub t : ℕ
+
+abbrev pub task : (p : ℕ) → List ℕ → List ℕ → ℕ → ℕ → Task (symbols p)
+task p points word k t =
+    record { p = p; element = symbol p; n = length points; point = symbolsOf p points; received = symbolsOf p word; k = k; t = t }
+
+pub record Numbering (F : Field) (p : ℕ) (element : ℕ → F .ring .Car) : Type 0 where
+  pub zero : element 0 ≡ F .ring .𝟘
+  pub all : (e : F .ring .Car) → (c : ℕ) × (c < p) × (element c ≡ e)
+  pub once : (b c : ℕ) → b < p → c < p → element b ≡ element c → b ≡ c
+
+pub record Spelt (p k : ℕ) (x : List ℕ) : Type 0 where
+  pub long : length x ≡ k
+  pub small : (i : ℕ) → i < k → getD x i 0 < p
+
+abbrev pub In : List ℕ → List (List ℕ) → Type 0
+In x list = List·Memᴰ x list
+
+abbrev pub Before : List ℕ → List ℕ → Type 0
+Before [] y = ⊥
+Before (b ∷ x) [] = ⊥
+Before (b ∷ x) (c ∷ y) = (b < c) ⊎ ((b ≡ c) × Before x y)
+
+abbrev pub Ascending : List (List ℕ) → Type 0
+Ascending [] = Unit
+Ascending (x ∷ list) = ((y : List ℕ) → In y list → Before x y) × Ascending list
+
+-- 1 for a yes
+abbrev pub one : {A : Type 0} → Dec A → ℕ
+one (yes h) = 1
+one (no h) = 0
+
+module _ {F : Field} (job : Task F) where
+  abbrev pub polynomial : List ℕ → Seq (F .ring)
+  polynomial x = λ i. job .element (getD x i 0)
+
+  unfoldable pub agreements : ℕ → Seq (F .ring) → ℕ
+  agreements zero g = 0
+  agreements (suc n) g = agreements n g + one (F .same? (value (F .ring) (job .point n) (job .k) g) (job .received n))
+
+  pub record Wanted (g : Seq (F .ring)) : Type 0 where
+    pub degree : Below (F .ring) (job .k) g
+    pub agrees : job .t ≤ agreements (job .n) g
+
+  pub record IsList (list : List (List ℕ)) : Type 0 where
+    pub ascending : Ascending list
+    pub spelt : (x : List ℕ) → In x list → Spelt (job .p) (job .k) x
+    pub wanted : (x : List ℕ) → In x list → Wanted (polynomial x)
+    pub all : (g : Seq (F .ring)) → Wanted g → (x : List ℕ) × In x list × (polynomial x ≡ g)

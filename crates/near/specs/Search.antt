@@ -1,0 +1,80 @@
+-- The search for the near messages, symbol by symbol, on a curve Q of fewer than N powers of y and of weight below W.
+--   curveAt N s Q       Q at y = s
+--   line g i            g + x^i y
+--   Fits N g i Q c      c fits after the i symbols that form g: it is a root, at x = 0, of Q at y = g + x^i y divided by its highest power
+--                       of x
+-- The search keeps one curve, T = Q at y = g + y, and reads from it which symbols fit (proofs/Fitting.antt).
+--   chosen N i c T      T at y = c x^i + y: what T becomes when c is chosen as the symbol at x^i
+--   slice i v T         the coefficient of x^v in T at y = x^i y, as a polynomial in y
+--   lowest N W i T      the least v below W at which it is not zero
+--   fits? N W i T c     whether c is a root of it there
+--   each p f            f 0, .., f (p-1), one after the other
+--   level job N W left x T     the messages found that begin with x, where T is what x leaves and `left` symbols are still to be chosen:
+--                       each next symbol is tried, and each fitting one opens the next level; at the end the agreements decide
+--   opened job N W left x T c  those found with c chosen after x
+--   found job N W Q     all messages found
+use mathlib.Core.Path.{_≡_}
+use mathlib.Core.Bool.{Bool, true, false}
+use mathlib.Core.List.{List, [], _∷_, _++_}
+use Prim.Native.Nat.{ℕ, zero, suc, _-_, _*_, _<_}
+use native.Mathlib.Decide.{decLe}
+use lib.ListN.{length}
+use Rattle.field.specs.Ring.{Ring}
+use Rattle.field.specs.Field.{Field}
+use Rattle.poly.specs.Polynomials.{Seq, Series, oneS, consS, constS, value}
+use Rattle.rows.specs.Curves.{Curve}
+use Rattle.rows.specs.Turns.{choose, mono}
+use Rattle.near.specs.Lists.{Task, polynomial, agreements}
+
+module _ (R : Ring) where
+  unfoldable pub curveAt : ℕ → Curve R → Curve R → Curve R
+  curveAt N s Q = value (Series (Series R)) s N (λ j. constS (Series R) (Q j))
+
+  abbrev pub line : Seq R → ℕ → Curve R
+  line g i = consS (Series R) g (constS (Series R) (mono R (R .𝟙) i))
+
+  pub record Fits (N : ℕ) (g : Seq R) (i : ℕ) (Q : Curve R) (c : R .Car) : Type 0 where
+    pub power : ℕ
+    pub divides : (j e : ℕ) → e < power → curveAt N (line g i) Q j e ≡ R .𝟘
+    pub highest : ((j : ℕ) → curveAt N (line g i) Q j power ≡ R .𝟘) → ⊥
+    pub root : value R c N (λ j. curveAt N (line g i) Q j power) ≡ R .𝟘
+
+  abbrev pub chosen : ℕ → ℕ → R .Car → Curve R → Curve R
+  chosen N i c T = curveAt N (consS (Series R) (mono R c i) (oneS (Series R))) T
+
+  unfoldable pub slice : ℕ → ℕ → Curve R → Seq R
+  slice i v T j = choose (decLe (i * j) v) (T j (v - i * j)) (R .𝟘)
+
+-- the least number below W that passes the test, or W
+unfoldable pub least : ℕ → (ℕ → Bool) → ℕ
+least zero test = 0
+least (suc W) test = elim (test 0) [ true ↦ 0 | false ↦ suc (least W (λ v. test (suc v))) ]
+
+unfoldable pub each : ℕ → (ℕ → List (List ℕ)) → List (List ℕ)
+each zero f = []
+each (suc p) f = each p f ++ f p
+
+module _ (F : Field) where
+  -- whether one of the first N coefficients is not zero
+  unfoldable pub some? : ℕ → Seq (F .ring) → Bool
+  some? zero f = false
+  some? (suc N) f = choose (F .same? (f N) (F .ring .𝟘)) (some? N f) true
+
+  abbrev pub lowest : ℕ → ℕ → ℕ → Curve (F .ring) → ℕ
+  lowest N W i T = least W (λ v. some? N (slice (F .ring) i v T))
+
+  abbrev pub fits? : (N W i : ℕ) (T : Curve (F .ring)) (c : F .ring .Car) → Dec (value (F .ring) c N (slice (F .ring) i (lowest N W i T) T) ≡ F .ring .𝟘)
+  fits? N W i T c = F .same? (value (F .ring) c N (slice (F .ring) i (lowest N W i T) T)) (F .ring .𝟘)
+
+module _ {F : Field} (job : Task F) (N W : ℕ) where
+  unfoldable pub level : ℕ → List ℕ → Curve (F .ring) → List (List ℕ)
+  level zero x T = choose (decLe (job .t) (agreements job (job .n) (polynomial job x))) (x ∷ []) []
+  level (suc left) x T =
+      each (job .p)
+      (λ c. choose (fits? F N W (length x) T (job .element c)) (level left (x ++ (c ∷ [])) (chosen (F .ring) N (length x) (job .element c) T)) [])
+
+  abbrev pub opened : ℕ → List ℕ → Curve (F .ring) → ℕ → List (List ℕ)
+  opened left x T c = level left (x ++ (c ∷ [])) (chosen (F .ring) N (length x) (job .element c) T)
+
+  abbrev pub found : Curve (F .ring) → List (List ℕ)
+  found Q = level (job .k) [] Q

@@ -1,0 +1,143 @@
+-- What the functions of the search ask and give. Their curve lies in bytes as a row does; the bytes themselves come back as they were.
+--   shapeOf plan            the numbers by which the curve's bytes are read
+--   curveOf plan xs         the curve that the bytes xs are
+--   sliceOf plan xs i v     the coefficient of x^v in that curve at y = x^i y, as a polynomial in y
+--   RootAt plan xs i v c    c is a root of it
+--   Laid plan xs            they are a curve of which no term weighs more than the width, each coefficient below p
+--   Tries plan i c xs       the curve is laid, and c is tried as the symbol at x^i
+--   Raised plan i c j q xs ys   each of the slots from j to q - 1 took c x^i times the slot above, as it was
+--   Shifted plan i c xs ys  the bytes ys are what the curve becomes when c is chosen as the symbol at x^i; no other byte is written
+--   Received plan points word   messages are not empty; points and symbols are below p, and as many
+--   jobOf plan points word  the task
+--   after                   the messages found that begin with the first i bytes of `chosen`, on the curve that they leave
+--   with                    those of them that go on with c
+--   kept                    the first k bytes of `chosen` as a list of one message, if it has the agreements
+--   Room plan count list messages     there is room for the list after `count` messages
+--   Wrote                   the list was written after `count` messages, and the number of all is handed back
+--   Searches                what a level asks: the curve is laid, and a symbol is to be chosen after the first i
+--   Leaves                  what it leaves: the curve and the first i symbols as they were, and the messages written
+--   planOf p n k m l t      the plan of a request
+--   foundOn                 all messages found on the curve that bytes are
+--   Runs                    what the whole search asks: the curve is laid, and l messages are room enough
+--   Ran                     what it leaves: the messages one after the other, the rest as it was, and how many they are
+--   FoundCurve              what interpolation leaves: the curve of demand 2 in the lent bytes, with its weight and the updates made
+use mathlib.Core.Path.{_≡_}
+use mathlib.Core.Logic.{_⊎_}
+use mathlib.Core.List.{List, [], _∷_}
+use Prim.Native.Nat.{ℕ, suc, _+_, _-_, _*_, _≤_, _<_}
+use native.Mathlib.Decide.{decLe}
+use lib.ListN.{length, getD, take}
+use lib.Seq.{sets}
+use Rattle.field.specs.Symbols.{Listed, symbol, symbols, sumOf, productOf}
+use Rattle.poly.specs.Polynomials.{Seq, value}
+use Rattle.poly.specs.Buffers.{AllBelow}
+use Rattle.rows.specs.Curves.{Curve, Under}
+use Rattle.rows.specs.Turns.{choose}
+use Rattle.rows.specs.Bytes.{width, shape, curveBytes, rowsOf, HoldsCurve, Untouched}
+use Rattle.rows.specs.Work.{Fine}
+use Rattle.rows.specs.declared.Shape.{Shape}
+use Rattle.near.specs.Lists.{Task, task, Spelt, polynomial, agreements}
+use Rattle.near.specs.Search.{chosen, slice, level, opened, found}
+use Rattle.near.specs.Job.{workingRoom, flat, TheCurve, RuleUpdates}
+use Rattle.near.specs.declared.Weighed.{Weighed}
+use Rattle.near.specs.declared.search.Plan.{Plan}
+
+abbrev pub shapeOf : Plan → Shape
+shapeOf plan = record { p = plan .p; u = plan .k - 1; width = plan .width; l = plan .l }
+
+abbrev pub curveOf : (plan : Plan) → List ℕ → Curve (symbols (plan .p) .ring)
+curveOf plan xs = rowsOf (shapeOf plan) xs 0
+
+abbrev pub sliceOf : (plan : Plan) → List ℕ → ℕ → ℕ → Seq (symbols (plan .p) .ring)
+sliceOf plan xs i v = slice (symbols (plan .p) .ring) i v (curveOf plan xs)
+
+abbrev pub RootAt : (plan : Plan) → List ℕ → ℕ → ℕ → ℕ → Type 0
+RootAt plan xs i v c = value (symbols (plan .p) .ring) (symbol (plan .p) c) (suc (plan .l)) (sliceOf plan xs i v) ≡ symbol (plan .p) 0
+
+pub record Laid (plan : Plan) (xs : List ℕ) : Type 0 where
+  pub fine : Fine (shapeOf plan)
+  pub room : curveBytes (shapeOf plan) ≤ length xs
+  pub below : (q : ℕ) → q < curveBytes (shapeOf plan) → getD xs q 0 < plan .p
+  pub light : Under (symbols (plan .p) .ring) (plan .k - 1) (suc (plan .width)) 0 (curveOf plan xs)
+
+pub record Tries (plan : Plan) (i c : ℕ) (xs : List ℕ) : Type 0 where
+  pub laid : Laid plan xs
+  pub next : i < plan .k
+  pub small : c < plan .p
+
+pub record Raised (plan : Plan) (i c j q : ℕ) (xs ys : List ℕ) : Type 0 where
+  pub laid : Laid plan ys
+  pub slots : (a e : ℕ) → j ≤ a → a < q → i ≤ e
+      → curveOf plan ys a e ≡ sumOf (plan .p) (curveOf plan xs a e) (productOf (plan .p) (symbol (plan .p) c) (curveOf plan xs (suc a) (e - i)))
+  pub others : (a e : ℕ) → (a < j) ⊎ ((q ≤ a) ⊎ (e < i)) → curveOf plan ys a e ≡ curveOf plan xs a e
+  pub rest : Untouched (curveBytes (shapeOf plan)) xs ys
+
+pub record Shifted (plan : Plan) (i c : ℕ) (xs ys : List ℕ) : Type 0 where
+  pub laid : Laid plan ys
+  pub curve : curveOf plan ys ≡ chosen (symbols (plan .p) .ring) (suc (plan .l)) i (symbol (plan .p) c) (curveOf plan xs)
+  pub rest : Untouched (curveBytes (shapeOf plan)) xs ys
+
+pub record Received (plan : Plan) (points word : List ℕ) : Type 0 where
+  pub size : Listed (plan .p)
+  pub some : 0 < plan .k
+  pub same : length word ≡ length points
+  pub points-below : AllBelow (plan .p) points
+  pub word-below : AllBelow (plan .p) word
+
+module _ (plan : Plan) (points word : List ℕ) where
+  abbrev pub jobOf : Task (symbols (plan .p))
+  jobOf = task (plan .p) points word (plan .k) (plan .t)
+
+  abbrev pub after : (curve chosen : List ℕ) → ℕ → List (List ℕ)
+  after curve chosen i = level jobOf (suc (plan .l)) (suc (plan .width)) (plan .k - i) (take i chosen) (curveOf plan curve)
+
+  abbrev pub with : (curve chosen : List ℕ) → ℕ → ℕ → List (List ℕ)
+  with curve chosen i c = opened jobOf (suc (plan .l)) (suc (plan .width)) (plan .k - suc i) (take i chosen) (curveOf plan curve) c
+
+  abbrev pub kept : List ℕ → List (List ℕ)
+  kept chosen = choose (decLe (plan .t) (agreements jobOf (length points) (polynomial jobOf (take (plan .k) chosen)))) (take (plan .k) chosen ∷ []) []
+
+  pub record Searches (curve chosen : List ℕ) (i : ℕ) : Type 0 where
+    pub received : Received plan points word
+    pub laid : Laid plan curve
+    pub next : i < plan .k
+    pub long : plan .k ≤ length chosen
+    pub spelt : Spelt (plan .p) i (take i chosen)
+
+pub record Room (plan : Plan) (count : ℕ) (list : List (List ℕ)) (messages : List ℕ) : Type 0 where
+  pub enough : (count + length list) * plan .k ≤ length messages
+
+pub record Wrote (plan : Plan) (count : ℕ) (list : List (List ℕ)) (before after : List ℕ) (r : ℕ) : Type 0 where
+  pub total : r ≡ count + length list
+  pub written : after ≡ sets before (count * plan .k) (flat list)
+
+pub record Leaves (plan : Plan) (i count : ℕ) (list : List (List ℕ)) (curve curve′ chosen chosen′ messages messages′ : List ℕ) (r : ℕ) : Type 0 where
+  pub same : curve′ ≡ curve
+  pub front : take i chosen′ ≡ take i chosen
+  pub wrote : Wrote plan count list messages messages′ r
+
+abbrev pub planOf : ℕ → ℕ → ℕ → ℕ → ℕ → ℕ → Plan
+planOf p n k m l t = record { p = p; k = k; l = l; t = t; width = width n k m l }
+
+abbrev pub foundOn : Plan → List ℕ → List ℕ → List ℕ → List (List ℕ)
+foundOn plan points word curve = found (jobOf plan points word) (suc (plan .l)) (suc (plan .width)) (curveOf plan curve)
+
+pub record Runs (plan : Plan) (points word curve messages : List ℕ) : Type 0 where
+  pub received : Received plan points word
+  pub laid : Laid plan curve
+  pub few : length (foundOn plan points word curve) ≤ plan .l
+  pub room : plan .l * plan .k ≤ length messages
+
+pub record Ran (k : ℕ) (list : List (List ℕ)) (before after : List ℕ) (r : ℕ) : Type 0 where
+  pub count : r ≡ length list
+  pub written : take (length list * k) after ≡ flat list
+  pub rest : Untouched (length list * k) before after
+
+pub record FoundCurve (p : ℕ) (points word : List ℕ) (k m l : ℕ) (room-before room-after before after : List ℕ) (back : Weighed) : Type 0 where
+  pub curve : Curve (symbols p .ring)
+  pub smallest : TheCurve p points word k m l curve
+  pub bytes : HoldsCurve (shape p (length points) k m l) after curve
+  pub long : length after ≡ length before
+  pub weight-is : back .weight ≡ smallest .weight
+  pub updates-are : RuleUpdates p points word k m l (back .updates)
+  pub rest : Untouched workingRoom room-before room-after

@@ -1,0 +1,136 @@
+// The messages near a received word, in one call.
+ghost use mathlib.Core.Path.{_≡_};
+ghost use Prim.Native.Nat.{ℕ, _+_, _-_, _*_, _<_, _≤_};
+ghost use lib.ListN.{length};
+ghost use Rattle.poly.specs.Table.{First};
+ghost use Rattle.rows.specs.Bytes.{shape, curveBytes};
+ghost use Rattle.rows.specs.Jobs.{startTable};
+ghost use Rattle.near.specs.Job.{listTable, Zeroed, HasListed};
+ghost use Rattle.near.specs.Work.{FoundCurve};
+
+mod search; // search.rt: the messages found on the curve, symbol by symbol
+
+pub struct Near {
+    pub number: u8,
+    pub count: u8,
+    pub updates: u16,
+    pub weight: u8,
+}
+
+// What interpolation hands over beside the curve.
+pub struct Weighed {
+    pub updates: u16,
+    pub weight: u8,
+}
+
+// The first of the refusals 1 to 9 that applies, or 0.
+fn refuse_list(
+    p: u8,
+    points: &[u8],
+    word: &[u8],
+    k: u8,
+    m: u8,
+    l: u8,
+    t: u8,
+    room: &[u8],
+    messages: &[u8],
+) -> u8
+    ensures { λ r. ⌜ First (listTable p (now (points .entry)) (now (word .entry)) k m l t (now (room .entry)) (now (messages .entry))) r ⌝ }
+{
+    let number = rows::refuse_request(p, points, word, k, m, l);
+    if number != 0 {
+        return number;
+    }
+    if t < 1 {
+        return 8;
+    }
+    if points.len() < t as usize {
+        return 8;
+    }
+    if room.len() < 32768 {
+        return 9;
+    }
+    if messages.len() < l as usize * k as usize {
+        return 9;
+    }
+    0
+}
+
+// The curve of demand 2: start, one turn with more than all updates ever needed, finish.
+fn interpolate(
+    p: u8,
+    points: &[u8],
+    word: &[u8],
+    k: u8,
+    m: u8,
+    l: u8,
+    room: &mut [u8],
+    curve: &mut [u8],
+) -> Weighed
+    requires { ⌜ First (startTable p (now points) (now word) k m l (now room)) 0 ⌝ }
+    requires { ⌜ curveBytes (shape p (length (now points)) k m l) ≤ length (now curve) ⌝ }
+    ensures { λ back. ⌜ FoundCurve p (now (points .entry)) (now (word .entry)) k m l (now (room .entry)) (now (room .exit)) (now (curve .entry)) (now (curve .exit)) back ⌝ }
+{
+    let started = rows::start(p, points, word, k, m, l, room);
+    let note = started.note;
+    let turned = note.turn(room, 65535);
+    let finished = rows::finish(turned.note, room, curve);
+    Weighed {
+        updates: turned.updates,
+        weight: finished.weight,
+    }
+}
+
+// The first `len` bytes become zero.
+fn clear(room: &mut [u8], len: usize)
+    requires { ⌜ len ≤ length (now room) ⌝ }
+    ensures { λ _. ⌜ Zeroed len (now (room .entry)) (now (room .exit)) ⌝ }
+{
+    let mut i = 0;
+    while i < len {
+        room[i] = 0;
+        i += 1;
+    }
+}
+
+pub fn list(
+    p: u8,
+    points: &[u8],
+    word: &[u8],
+    k: u8,
+    m: u8,
+    l: u8,
+    t: u8,
+    room: &mut [u8],
+    messages: &mut [u8],
+) -> Near
+    ensures { λ back. ⌜ HasListed p (now (points .entry)) (now (word .entry)) k m l t (now (room .entry)) (now (room .exit)) (now (messages .entry)) (now (messages .exit)) back ⌝ }
+{
+    let number = refuse_list(p, points, word, k, m, l, t, room, messages);
+    if number != 0 {
+        return Near {
+            number,
+            count: 0,
+            updates: 0,
+            weight: 0,
+        };
+    }
+    let mut curve = [0u8; 2169];
+    let weighed = interpolate(p, points, word, k, m, l, room, &mut curve);
+    clear(room, 32768);
+    if m as u16 * t as u16 <= weighed.weight as u16 {
+        return Near {
+            number: 13,
+            count: 0,
+            updates: 0,
+            weight: 0,
+        };
+    }
+    let count = search::run(&mut curve, points, word, p, k, m, l, t, messages);
+    Near {
+        number: 0,
+        count,
+        updates: weighed.updates,
+        weight: weighed.weight,
+    }
+}

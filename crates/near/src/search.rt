@@ -1,0 +1,270 @@
+// The messages found on a curve, symbol by symbol. The one curve is shifted in place: to choose the symbol c at x^i, y becomes y + c x^i, and
+// coming back y - c x^i, which restores every byte.
+ghost use mathlib.Core.Path.{_≡_};
+ghost use Prim.Native.Nat.{ℕ, suc, _+_, _-_, _*_, _<_, _≤_};
+ghost use lib.ListN.{length, take};
+ghost use lib.Seq.{sets};
+ghost use Rattle.field.specs.Symbols.{symbols};
+ghost use Rattle.poly.specs.Buffers.{Decided};
+ghost use Rattle.rows.specs.Bytes.{width};
+ghost use Rattle.near.specs.Lists.{Spelt, agreements as agreementsOf, polynomial};
+ghost use Rattle.near.specs.Search.{some?, lowest as lowestOf};
+ghost use Rattle.near.specs.Work.{curveOf, sliceOf, RootAt, Laid, Tries, Raised, Shifted, Received, jobOf, after, with, kept, Room, Wrote, Searches, Leaves, planOf, foundOn, Runs, Ran};
+use field::Symbol;
+
+pub struct Plan {
+    pub p: u8,
+    pub k: usize,
+    pub l: usize,
+    pub t: usize,
+    pub width: usize,
+}
+
+// The coefficient of x^v in what slot j becomes at x^i y for y.
+fn symbol_at(curve: &[u8], plan: Plan, i: usize, v: usize, j: usize) -> u8
+    requires { ⌜ Laid plan (now curve) ⌝ }
+    requires { ⌜ i < plan .k ⌝ }
+    requires { ⌜ j ≤ plan .l ⌝ }
+    ensures { λ r. ⌜ r ≡ sliceOf plan (now (curve .entry)) i v j .byte ⌝ }
+{
+    let lift = i * j;
+    if v < lift {
+        return 0;
+    }
+    let e = v - lift;
+    if plan.width < e {
+        return 0;
+    }
+    let at = j * (plan.width + 1) + e;
+    curve[at]
+}
+
+// Whether x^v stands anywhere in the curve at x^i y for y.
+fn stands(curve: &[u8], plan: Plan, i: usize, v: usize) -> bool
+    requires { ⌜ Laid plan (now curve) ⌝ }
+    requires { ⌜ i < plan .k ⌝ }
+    ensures { λ r. ⌜ r ≡ some? (symbols (plan .p)) (suc (plan .l)) (sliceOf plan (now (curve .entry)) i v) ⌝ }
+{
+    let mut j = 0;
+    while j <= plan.l {
+        if symbol_at(curve, plan, i, v, j) != 0 {
+            return true;
+        }
+        j += 1;
+    }
+    false
+}
+
+// The highest power of x that divides it.
+fn lowest(curve: &[u8], plan: Plan, i: usize) -> usize
+    requires { ⌜ Laid plan (now curve) ⌝ }
+    requires { ⌜ i < plan .k ⌝ }
+    ensures { λ r. ⌜ r ≡ lowestOf (symbols (plan .p)) (suc (plan .l)) (suc (plan .width)) i (curveOf plan (now (curve .entry))) ⌝ }
+{
+    let mut v = 0;
+    while v <= plan.width {
+        if stands(curve, plan, i, v) {
+            return v;
+        }
+        v += 1;
+    }
+    v
+}
+
+// Whether c is a root of what is left at x = 0.
+fn fits(curve: &[u8], plan: Plan, i: usize, low: usize, c: u8) -> bool
+    requires { ⌜ Tries plan i c (now curve) ⌝ }
+    ensures { λ r. ⌜ Decided r (RootAt plan (now (curve .entry)) i low c) ⌝ }
+{
+    let p = plan.p;
+    let x = Symbol { value: c };
+    let mut sum = Symbol::ZERO;
+    let mut j = plan.l + 1;
+    while 0 < j {
+        j -= 1;
+        let a = Symbol {
+            value: symbol_at(curve, plan, i, low, j),
+        };
+        sum = a.sum(x.product(sum, p), p);
+    }
+    sum.value == 0
+}
+
+// Slot q takes c x^i times the slot above.
+fn take_above(curve: &mut [u8], plan: Plan, i: usize, c: Symbol, q: usize)
+    requires { ⌜ Tries plan i (c .value) (now curve) ⌝ }
+    requires { ⌜ q < plan .l ⌝ }
+    ensures { λ _. ⌜ Raised plan i (c .value) q (suc q) (now (curve .entry)) (now (curve .exit)) ⌝ }
+{
+    let slot = plan.width + 1;
+    let less = c.negative(plan.p);
+    field::subtract(curve, q * slot + i, (q + 1) * slot, slot - i, less, plan.p);
+}
+
+// Slots j to l - 1 each take c x^i times the slot above, from the lowest up.
+fn raise(curve: &mut [u8], plan: Plan, i: usize, c: Symbol, j: usize)
+    requires { ⌜ Tries plan i (c .value) (now curve) ⌝ }
+    requires { ⌜ j < plan .l ⌝ }
+    ensures { λ _. ⌜ Raised plan i (c .value) j (plan .l) (now (curve .entry)) (now (curve .exit)) ⌝ }
+{
+    let mut q = j;
+    while q < plan.l {
+        take_above(curve, plan, i, c, q);
+        q += 1;
+    }
+}
+
+// y becomes y + c x^i, by Horner's rule from the highest power of y down.
+fn shift(curve: &mut [u8], plan: Plan, i: usize, c: Symbol)
+    requires { ⌜ Tries plan i (c .value) (now curve) ⌝ }
+    ensures { λ _. ⌜ Shifted plan i (c .value) (now (curve .entry)) (now (curve .exit)) ⌝ }
+{
+    let mut j = plan.l;
+    while 0 < j {
+        j -= 1;
+        raise(curve, plan, i, c, j);
+    }
+}
+
+// At how many places the message agrees.
+fn agreements(message: &[u8], points: &[u8], word: &[u8], plan: Plan) -> usize
+    requires { ⌜ Received plan (now points) (now word) ⌝ }
+    requires { ⌜ Spelt (plan .p) (plan .k) (now message) ⌝ }
+    ensures { λ r. ⌜ r ≡ agreementsOf (jobOf plan (now (points .entry)) (now (word .entry))) (length (now (points .entry))) (polynomial (jobOf plan (now (points .entry)) (now (word .entry))) (now (message .entry))) ⌝ }
+{
+    let mut count = 0;
+    let mut s = 0;
+    while s < points.len() {
+        if poly::value_at(message, points[s], plan.p) == word[s] {
+            count += 1;
+        }
+        s += 1;
+    }
+    count
+}
+
+// Writes the message from `at` on.
+fn put(messages: &mut [u8], at: usize, message: &[u8])
+    requires { ⌜ at + length (now message) ≤ length (now messages) ⌝ }
+    ensures { λ _. ⌜ now (messages .exit) ≡ sets (now (messages .entry)) at (now (message .entry)) ⌝ }
+{
+    let mut i = 0;
+    while i < message.len() {
+        messages[at + i] = message[i];
+        i += 1;
+    }
+}
+
+// The message goes to the list where it has enough agreements.
+fn keep(
+    chosen: &[u8],
+    points: &[u8],
+    word: &[u8],
+    messages: &mut [u8],
+    plan: Plan,
+    count: usize,
+) -> usize
+    requires { ⌜ Received plan (now points) (now word) ⌝ }
+    requires { ⌜ Spelt (plan .p) (plan .k) (take (plan .k) (now chosen)) ⌝ }
+    requires { ⌜ Room plan count (kept plan (now points) (now word) (now chosen)) (now messages) ⌝ }
+    ensures { λ r. ⌜ Wrote plan count (kept plan (now (points .entry)) (now (word .entry)) (now (chosen .entry))) (now (messages .entry)) (now (messages .exit)) r ⌝ }
+{
+    let k = plan.k;
+    let message = &chosen[..k];
+    if agreements(message, points, word, plan) < plan.t {
+        return count;
+    }
+    put(messages, count * k, message);
+    count + 1
+}
+
+// Each next symbol is tried, and each fitting one opens the next level.
+fn level(
+    curve: &mut [u8],
+    chosen: &mut [u8],
+    points: &[u8],
+    word: &[u8],
+    messages: &mut [u8],
+    plan: Plan,
+    i: usize,
+    count: usize,
+) -> usize
+    requires { ⌜ Searches plan (now points) (now word) (now curve) (now chosen) i ⌝ }
+    requires { ⌜ Room plan count (after plan (now points) (now word) (now curve) (now chosen) i) (now messages) ⌝ }
+    ensures { λ r. ⌜ Leaves plan i count (after plan (now (points .entry)) (now (word .entry)) (now (curve .entry)) (now (chosen .entry)) i) (now (curve .entry)) (now (curve .exit)) (now (chosen .entry)) (now (chosen .exit)) (now (messages .entry)) (now (messages .exit)) r ⌝ }
+{
+    let low = lowest(curve, plan, i);
+    let mut found = count;
+    let mut c = 0;
+    while c < plan.p {
+        if fits(curve, plan, i, low, c) {
+            found = open(curve, chosen, points, word, messages, plan, i, c, found);
+        }
+        c += 1;
+    }
+    found
+}
+
+// The messages that go on with c: the last symbol makes one of them, any other opens the next level on the shifted curve.
+fn open(
+    curve: &mut [u8],
+    chosen: &mut [u8],
+    points: &[u8],
+    word: &[u8],
+    messages: &mut [u8],
+    plan: Plan,
+    i: usize,
+    c: u8,
+    count: usize,
+) -> usize
+    requires { ⌜ Searches plan (now points) (now word) (now curve) (now chosen) i ⌝ }
+    requires { ⌜ c < plan .p ⌝ }
+    requires { ⌜ Room plan count (with plan (now points) (now word) (now curve) (now chosen) i c) (now messages) ⌝ }
+    ensures { λ r. ⌜ Leaves plan i count (with plan (now (points .entry)) (now (word .entry)) (now (curve .entry)) (now (chosen .entry)) i c) (now (curve .entry)) (now (curve .exit)) (now (chosen .entry)) (now (chosen .exit)) (now (messages .entry)) (now (messages .exit)) r ⌝ }
+{
+    let symbol = Symbol { value: c };
+    chosen[i] = c;
+    if i + 1 == plan.k {
+        return keep(chosen, points, word, messages, plan, count);
+    }
+    shift(curve, plan, i, symbol);
+    let found = level(curve, chosen, points, word, messages, plan, i + 1, count);
+    shift(curve, plan, i, symbol.negative(plan.p));
+    found
+}
+
+// The numbers of a request; n is the count of points.
+fn plan_of(p: u8, n: usize, k: u8, m: u8, l: u8, t: u8) -> Plan
+    requires { ⌜ (0 < k) × (m ≤ l) × (width n k m l ≤ 240) ⌝ }
+    ensures { λ r. ⌜ r ≡ planOf p n k m l t ⌝ }
+{
+    let u = k as usize - 1;
+    let width = m as usize * n + (l as usize - m as usize) * u;
+    Plan {
+        p,
+        k: k as usize,
+        l: l as usize,
+        t: t as usize,
+        width,
+    }
+}
+
+pub fn run(
+    curve: &mut [u8],
+    points: &[u8],
+    word: &[u8],
+    p: u8,
+    k: u8,
+    m: u8,
+    l: u8,
+    t: u8,
+    messages: &mut [u8],
+) -> u8
+    requires { ⌜ m ≤ l ⌝ }
+    requires { ⌜ Runs (planOf p (length (now points)) k m l t) (now points) (now word) (now curve) (now messages) ⌝ }
+    ensures { λ r. ⌜ Ran k (foundOn (planOf p (length (now (points .entry))) k m l t) (now (points .entry)) (now (word .entry)) (now (curve .entry))) (now (messages .entry)) (now (messages .exit)) r ⌝ }
+{
+    let mut chosen = [0u8; 32];
+    let plan = plan_of(p, points.len(), k, m, l, t);
+    level(curve, &mut chosen, points, word, messages, plan, 0, 0) as u8
+}
