@@ -1,0 +1,9 @@
+pub mod Places
+pub mod Numbers
+pub mod Grammar
+pub mod Spans
+pub mod Items
+pub mod Decimals
+pub mod Puts
+pub mod Answers
+pub mod Outcomes

@@ -1,0 +1,6 @@
+pub mod Lines
+pub mod Requests
+pub mod Answers
+pub mod Examples
+pub mod Reading
+pub mod Writing
