@@ -1,4 +1,5 @@
-// Runs document 01's figures; what it prints is held against stdout. The starred ones are proved besides (specs/Figures.antt).
+// Runs document 01's figures; what it prints is held against stdout. The starred ones are proved besides (specs/Figures.antt). A message or
+// a word is given as a decimal number, a digit for each symbol.
 use libc::STDOUT_FILENO;
 
 fn wide(x: u8) -> u64 {
@@ -17,40 +18,111 @@ fn show(name: &[u8], numbers: &[u8]) {
     io::write_all(STDOUT_FILENO, b"\n");
 }
 
-// The number that encode gives, and the word.
-fn encode(name: &[u8], p: u8, points: &[u8], message: &[u8]) {
+fn show_updates(updates: u16) {
+    io::write_all(STDOUT_FILENO, b"  updates ");
+    io::print_decimal(STDOUT_FILENO, updates as u64);
+    io::write_all(STDOUT_FILENO, b"\n");
+}
+
+fn last_digit(number: u32) -> u8 {
+    (number % 10) as u8
+}
+
+// The last digits of a number, as many as there is room for.
+fn digits(number: u32, out: &mut [u8]) {
+    let mut rest = number;
+    let mut i = out.len();
+    while 0 < i {
+        i -= 1;
+        out[i] = last_digit(rest);
+        rest /= 10;
+    }
+}
+
+fn encode(p: u8, points: &[u8], message: &[u8]) {
     let mut word = [0u8; 6];
     let number = poly::encode(p, points, message, &mut word);
-    show(name, &[number]);
+    show(b"  message", message);
+    show(b"  encode", &[number]);
     show(b"  word", &word);
 }
 
+// Start, a turn, finish.
+fn interpolate(p: u8, points: &[u8], word: &[u8], k: u8, m: u8, l: u8, lent: &mut [u8]) {
+    let mut curve = [0u8; 60];
+    let started = rows::start(p, points, word, k, m, l, lent);
+    let note = started.note;
+    let turned = note.turn(lent, 65535);
+    let finished = rows::finish(turned.note, lent, &mut curve);
+    show(
+        b"  start turn finish",
+        &[started.number, turned.number, finished.number],
+    );
+    show_updates(turned.updates);
+    show(b"  weight height", &[finished.weight, finished.height]);
+    show(b"  curve", &curve);
+}
+
+fn list(p: u8, points: &[u8], word: &[u8], k: u8, m: u8, l: u8, t: u8) {
+    let mut room = [0u8; 32768];
+    let mut messages = [0u8; 9];
+    let near = near::list(p, points, word, k, m, l, t, &mut room, &mut messages);
+    show(b"  list", &[near.number]);
+    show_updates(near.updates);
+    show(b"  weight count", &[near.weight, near.count]);
+    show(b"  messages", &messages);
+}
+
+// A message and a received word at the points 1, 2, 3.
+fn three(p: u8, message: u32, word: u32, k: u8, m: u8, l: u8, t: u8) {
+    let points = [1u8, 2, 3];
+    let mut sent = [0u8; 2];
+    digits(message, &mut sent);
+    let mut received = [0u8; 3];
+    digits(word, &mut received);
+    let mut lent = [0u8; 63];
+    show(b"p k m l t", &[p, k, m, l, t]);
+    encode(p, &points, &sent);
+    show(b"  received", &received);
+    interpolate(p, &points, &received, k, m, l, &mut lent);
+    list(p, &points, &received, k, m, l, t);
+}
+
+// Example 19, where a message has three symbols, at the points 1 to 6. A byte less than the rows take is refused.
+fn example_19(message: u32, t: u8) {
+    let points = [1u8, 2, 3, 4, 5, 6];
+    let mut sent = [0u8; 3];
+    digits(message, &mut sent);
+    let mut received = [0u8; 6];
+    digits(624442, &mut received);
+    let mut lent = [0u8; 240];
+    let mut less = [0u8; 239];
+    show(b"example 19, t", &[t]);
+    encode(7, &points, &sent);
+    show(b"  received", &received);
+    interpolate(7, &points, &received, 3, 2, 3, &mut lent);
+    interpolate(7, &points, &received, 3, 2, 3, &mut less);
+    list(7, &points, &received, 3, 2, 3, t);
+}
+
 fn main() {
-    encode(
-        b"message 5,2,6",
-        7,
-        b"\x01\x02\x03\x04\x05\x06",
-        b"\x05\x02\x06",
-    );
-    encode(
-        b"message 1,3,4",
-        7,
-        b"\x01\x02\x03\x04\x05\x06",
-        b"\x01\x03\x04",
-    );
-    encode(b"p = 9", 9, b"\x01\x02\x03\x04\x05\x06", b"\x01\x03\x04");
-    encode(b"p = 31", 31, b"\x1e\x01\x02", b"\x01\x1e");
-    encode(b"p = 33", 33, b"\x01\x02\x03", b"\x01\x03");
-    encode(b"p = 2", 2, b"\x01\x02\x03", b"\x01\x03");
-    encode(b"n = 2", 7, b"\x01\x02", b"\x01\x03");
-    encode(b"k = n", 7, b"\x01\x02\x03", b"\x01\x03\x04");
-    encode(
-        b"k = n-1",
-        7,
-        b"\x01\x02\x03\x04\x05\x06",
-        b"\x01\x02\x03\x04\x05",
-    );
-    encode(b"k = 1", 7, b"\x01\x02\x03", b"\x01");
-    encode(b"symbol 6", 7, b"\x01\x02\x03", b"\x01\x06");
-    encode(b"symbol 7", 7, b"\x01\x02\x03", b"\x01\x07");
+    example_19(526, 4);
+    example_19(134, 3);
+    three(7, 1, 123, 2, 1, 1, 2);
+    three(7, 1, 1, 2, 1, 1, 3);
+    three(7, 1, 1, 2, 1, 1, 2);
+    three(7, 1, 0, 2, 2, 2, 3);
+    // the ends of the ranges
+    three(31, 1, 123, 2, 1, 1, 3);
+    three(33, 1, 123, 2, 1, 1, 3);
+    three(2, 1, 123, 2, 1, 1, 3);
+    three(9, 1, 123, 2, 1, 1, 3);
+    three(7, 1, 123, 1, 1, 1, 3);
+    three(7, 1, 123, 3, 1, 1, 3);
+    three(7, 1, 123, 2, 2, 1, 3);
+    three(7, 1, 123, 2, 1, 9, 3);
+    three(7, 16, 345, 2, 1, 1, 0);
+    three(7, 16, 345, 2, 1, 1, 4);
+    three(7, 16, 654, 2, 1, 1, 3);
+    three(7, 17, 754, 2, 1, 1, 3);
 }

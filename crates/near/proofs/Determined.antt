@@ -47,7 +47,7 @@ near-same {a} {b} n c u w =
     ∙ ap₂ (λ (x y : ℕ). record { number = b .number; count = b .count; updates = x; weight = y }) u w
 
 module _ {p : ℕ} {points word : List ℕ} {k m l : ℕ} (places : Places p points word) where
-  updates-unique : {x y : ℕ} → RuleUpdates p points word k m l x → RuleUpdates p points word k m l y → x ≡ y
+  pub updates-unique : {x y : ℕ} → RuleUpdates p points word k m l x → RuleUpdates p points word k m l y → x ≡ y
   updates-unique a b =
       let Φ = symbols-field p (places .size) in
       let apart = distinct-apart Φ (length points) (symbolsOf p points) (places-distinct places) in

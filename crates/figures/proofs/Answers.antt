@@ -1,0 +1,109 @@
+-- The numbers that start and list give: the first line of their tables that applies, and that none does where a request is in order.
+use mathlib.Core.Path.{_≡_, refl, ap, _∙_}
+use mathlib.Core.Logic.{_⊎_, inl, inr, ⊎-elim}
+use mathlib.Core.List.{List}
+use Prim.Native.Nat.{ℕ, suc, _*_, _≤_, _<_}
+use native.Mathlib.Omega.{arith}
+use lib.ListN.{length}
+use Rattle.field.specs.Symbols.{Listed, listed}
+use Rattle.poly.specs.Table.{First, BadCount, BadDegree, TooLarge}
+use Rattle.poly.specs.Buffers.{AllBelow}
+use Rattle.poly.specs.Encode.{encodeTable}
+use Rattle.poly.proofs.TableLaws.{first-determined}
+use Rattle.rows.specs.Jobs.{startTable, BadHeights}
+use Rattle.rows.proofs.Accepted.{Accepted}
+use Rattle.near.specs.Job.{workingRoom, listTable}
+use Rattle.near.specs.declared.Near.{Near}
+use Rattle.figures.specs.Figures.{EncodeGives, Refused}
+use Rattle.figures.proofs.Computed.{seven}
+
+-- a line that does not apply, and what the rest of the table gives
+infixr 20 _⊳_
+pub _⊳_ : {Applies Given Rest : Type 0} → (Applies → ⊥) → Rest → (Applies × Given) ⊎ ((Applies → ⊥) × Rest)
+_⊳_ not rest = inr (not, rest)
+
+pub none-large : {p : ℕ} {xs : List ℕ} → AllBelow p xs → TooLarge p xs → ⊥
+none-large below t = let l = t .large in let b = below (t .place) (t .inside) in omega arith
+
+pub good-count : {p n : ℕ} → 3 ≤ n → n ≤ p → BadCount p n → ⊥
+good-count a b (inl h) = omega arith
+good-count a b (inr h) = omega arith
+
+pub good-degree : {n k : ℕ} → 2 ≤ k → k < n → BadDegree n k → ⊥
+good-degree a b (inl h) = omega arith
+good-degree a b (inr h) = omega arith
+
+module _ {p : ℕ} {points word : List ℕ} {k m l : ℕ} {lent : List ℕ} (a : Accepted p points word k m l lent) where
+  good-heights : BadHeights m l → ⊥
+  good-heights (inl h) = omega (arith, a .heights)
+  good-heights (inr (inl h)) = omega (arith, a .heights)
+  good-heights (inr (inr (inl h))) = omega (arith, a .heights)
+  good-heights (inr (inr (inr h))) = omega (arith, a .heights)
+
+  pub start-goes : First (startTable p points word k m l lent) 0
+  start-goes =
+      (λ n. n (a .places .size))
+      ⊳ good-count (a .some) (a .places .count)
+      ⊳ (λ n. n (a .places .same))
+      ⊳ good-degree (a .low) (a .degree)
+      ⊳ good-heights
+      ⊳ ⊎-elim (none-large (a .places .points-below)) (none-large (a .places .word-below))
+      ⊳ a .places .different
+      ⊳ (λ h. let r = a .room in omega arith)
+      ⊳ refl
+
+  pub list-goes : (t : ℕ) (room messages : List ℕ) → 1 ≤ t → t ≤ length points → workingRoom ≤ length room → l * k ≤ length messages
+      → First (listTable p points word k m l t room messages) 0
+  list-goes t room messages low high large long =
+      (λ n. n (a .places .size))
+      ⊳ good-count (a .some) (a .places .count)
+      ⊳ (λ n. n (a .places .same))
+      ⊳ good-degree (a .low) (a .degree)
+      ⊳ good-heights
+      ⊳ ⊎-elim (none-large (a .places .points-below)) (none-large (a .places .word-below))
+      ⊳ a .places .different
+      ⊳ ⊎-elim (λ h. omega arith) (λ h. omega arith)
+      ⊳ ⊎-elim (λ h. omega arith) (λ h. omega arith)
+      ⊳ refl
+
+encode-gives : {p : ℕ} {points : List ℕ} {k : ℕ} (n : ℕ) → ((message lent : List ℕ) → length message ≡ k → First (encodeTable p points message lent) (suc n)) → EncodeGives (suc n) p points k
+encode-gives {p} {points} n table message before after given long e = first-determined (encodeTable p points message before) given (suc n) (e .first) (table message before long)
+
+-- where line n + 1 is the first that applies in both tables
+module _ {p : ℕ} {points word : List ℕ} {k m l t : ℕ} where
+  refused : (n : ℕ) → ((lent : List ℕ) → First (startTable p points word k m l lent) (suc n)) → ((room messages : List ℕ) → First (listTable p points word k m l t room messages) (suc n))
+      → Refused (suc n) p points word k m l t
+  refused n start list =
+      record {
+        start = λ before after back h. first-determined (startTable p points word k m l before) (back .number) (suc n) (h .first) (start before);
+        list = λ room zeroed before after back h.
+            let e = first-determined (listTable p points word k m l t room before) (h .entry) (suc n) (h .first) (list room before) in
+            ap (λ (x : Near). x .number) (h .refused (λ z. omega arith) .0) ∙ e;
+      }
+
+nine : Listed 9 → ⊥
+unfolding listed
+nine l = l .listed
+
+module _ (points word : List ℕ) where
+  pub p-9 : (k m l t : ℕ) → EncodeGives 1 9 points k × Refused 1 9 points word k m l t
+  p-9 k m l t = (encode-gives 0 (λ message lent e. inl (nine, refl)), refused 0 (λ lent. inl (nine, refl)) (λ room messages. inl (nine, refl)))
+
+  pub n-2 : (k m l t : ℕ) → length points ≡ 2 → EncodeGives 2 7 points k × Refused 2 7 points word k m l t
+  n-2 k m l t two = (
+    encode-gives 1 (λ message lent e. (λ n. n seven) ⊳ inl (inl (omega arith), refl)),
+    refused 1 (λ lent. (λ n. n seven) ⊳ inl (inl (omega arith), refl)) (λ room messages. (λ n. n seven) ⊳ inl (inl (omega arith), refl)),
+  )
+
+  module _ (some : 3 ≤ length points) (most : length points ≤ 7) (same : length word ≡ length points) where
+    pub k-n : (m l t : ℕ) → EncodeGives 4 7 points (length points) × Refused 4 7 points word (length points) m l t
+    k-n m l t = (
+      encode-gives 3 (λ message lent e. (λ n. n seven) ⊳ good-count some most ⊳ inl (inr (omega arith), refl)),
+      refused 3 (λ lent. (λ n. n seven) ⊳ good-count some most ⊳ (λ n. n same) ⊳ inl (inr (omega arith), refl))
+          (λ room messages. (λ n. n seven) ⊳ good-count some most ⊳ (λ n. n same) ⊳ inl (inr (omega arith), refl)),
+    )
+
+    pub l-9 : (k m t : ℕ) → 2 ≤ k → k < length points → Refused 5 7 points word k m 9 t
+    l-9 k m t low degree =
+        refused 4 (λ lent. (λ n. n seven) ⊳ good-count some most ⊳ (λ n. n same) ⊳ good-degree low degree ⊳ inl (inr (inr (inr (omega arith))), refl))
+        (λ room messages. (λ n. n seven) ⊳ good-count some most ⊳ (λ n. n same) ⊳ good-degree low degree ⊳ inl (inr (inr (inr (omega arith))), refl))

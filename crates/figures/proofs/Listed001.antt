@@ -1,0 +1,93 @@
+-- The list for the word 0, 0, 1 at the points 1, 2, 3. The curve weighs 2. A message with three agreements would be h, which has degree 2.
+use mathlib.Core.Path.{_≡_, refl, sym, ap, _∙_}
+use mathlib.Core.List.{List, [], _∷_, List·Memᴰ·head}
+use Prim.Native.Nat.{ℕ, zero, suc, _+_, _≤_, _<_, zero-le}
+use native.Mathlib.Decide.{ℕ-discrete}
+use native.Mathlib.Omega.{arith}
+use lib.ListN.{length}
+use lib.Seq.{ext-getD}
+use Rattle.field.specs.Field.{Field}
+use Rattle.field.specs.Symbols.{Element, symbol, symbols}
+use Rattle.poly.specs.Polynomials.{Seq, value}
+use Rattle.poly.specs.Encode.{symbolsOf}
+use Rattle.poly.proofs.Evaluation.{value-more}
+use Rattle.poly.proofs.TableLaws.{first-determined}
+use Rattle.near.specs.Lists.{Task, task, one, polynomial, In, agreements, Wanted}
+use Rattle.near.specs.Job.{workingRoom, listTable, Answers, HasListed}
+use Rattle.near.specs.declared.Near.{Near}
+use Rattle.near.proofs.Determined.{updates-unique}
+use Rattle.near.proofs.Agreements.{agrees?, agreements-zero, agreements-suc}
+use Rattle.figures.specs.Figures.{three, atThree, word-0-0-1, ListGives}
+use Rattle.figures.proofs.Computed.{seven-laws, at-three}
+use Rattle.figures.proofs.Answers.{list-goes}
+use Rattle.figures.proofs.Calls.{smallest-weights, startFor, worked-smallest}
+use Rattle.figures.proofs.Word001.{h, h-only, formula-is-one, worked-0-0-1}
+
+-- n agreements at n places are one at each
+module _ {F : Field} (job : Task F) (g : Seq (F .ring)) where
+  abbrev Agrees : ℕ → Type 0
+  Agrees s = value (F .ring) (job .point s) (job .k) g ≡ job .received s
+
+  one-most : {A : Type 0} (d : Dec A) → one d ≤ 1
+  one-most (yes h) = omega arith
+  one-most (no h) = omega arith
+
+  agreements-most : (n : ℕ) → agreements job n g ≤ n
+  agreements-most zero = rw (agreements-zero job g) zero-le
+  agreements-most (suc n) = let a = agreements-most n in let b = one-most (agrees? job g n) in omega (arith, agreements-suc job g n)
+
+  agreements-all : (n : ℕ) → n ≤ agreements job n g → (s : ℕ) → s < n → Agrees s
+  agreements-all zero le s h = absurd (omega arith)
+  agreements-all (suc n) le s h = go (agrees? job g n) (rw (agreements-suc job g n) at le) (ℕ-discrete s n) (λ a k. agreements-all n a s k)
+    where
+      go : (d : Dec (Agrees n)) → suc n ≤ agreements job n g + one d → Dec (s ≡ n) → (n ≤ agreements job n g → s < n → Agrees s) → Agrees s
+      go (yes e) le (yes q) more = rw q e
+      go (yes e) le (no q) more = more (omega arith) (omega arith)
+      go (no e) le q more = let m = agreements-most n in absurd (omega arith)
+
+abbrev job : Task (symbols 7)
+job = task 7 three word-0-0-1 2 3
+
+-- a message has no x^2, and h has 4 x^2
+nobody : (g : Seq (symbols 7 .ring)) → Wanted job g → ⊥
+unfolding symbol
+nobody g want =
+    let same : g ≡ h = h-only g (record {
+      short = λ i l. want .degree i (omega arith);
+      hits = λ s l. value-more (seven-laws .ring) (symbolsOf 7 three s) 2 3 g (want .degree) (omega arith) ∙ agreements-all job g 3 (want .agrees) s l;
+    }) in
+    let e : _≡_ {A = ℕ} 4 0 = ap (λ (x : Element 7). x .byte) (ap (λ (f : Seq (symbols 7 .ring)). f 2) (sym same) ∙ want .degree 2 (omega arith)) in
+    omega arith
+
+empty : (list : List (List ℕ)) → ((x : List ℕ) → In x list → Wanted job (polynomial job x)) → list ≡ []
+empty [] wanted = refl
+empty (x ∷ list) wanted = absurd (nobody (polynomial job x) (wanted x (List·Memᴰ·head refl)))
+
+near-same : {n m a b c d e f : ℕ} → n ≡ m → a ≡ b → c ≡ d → e ≡ f
+    → _≡_ {A = Near} (record { number = n; count = a; updates = c; weight = e }) (record { number = m; count = b; updates = d; weight = f })
+near-same x y z w = cc
+
+-- an answer, whose curve weighs 2
+told : {t : ℕ} {room zeroed before after : List ℕ} {back : Near} → 1 ≤ t → t ≤ 3 → workingRoom ≤ length room → 2 ≤ length before
+    → HasListed 7 three word-0-0-1 2 1 1 t room zeroed before after back
+    → (a : Answers 7 three word-0-0-1 2 1 1 t room zeroed before after back) × (a .smallest .weight ≡ 2)
+told {t} {room} {before = before} some most large long listed =
+    let known = at-three word-0-0-1 room {m = 1} refl tt (omega arith) (omega arith) (omega arith) in
+    let entry = first-determined (listTable 7 three word-0-0-1 2 1 1 t room before) (listed .entry) 0 (listed .first) (list-goes known t room before some most large (omega arith)) in
+    let s = worked-smallest known worked-0-0-1 in
+    (listed .answers entry, smallest-weights (listed .answers entry .smallest) (s .0) ∙ s .1)
+
+pub list-2 : ListGives 2 (record { number = 13; count = 0; updates = 0; weight = 0 })
+list-2 room zeroed before after back large long listed = let (a, w) = told (omega arith) (omega arith) large long listed in a .unvouched (omega arith)
+
+pub list-3 : ListGives 3 (record { number = 0; count = 0; updates = 1; weight = 2 })
+list-3 room zeroed before after back large long listed =
+    let (a, w) = told (omega arith) (omega arith) large long listed in
+    let lists = a .lists (omega arith) in
+    let none = empty (lists .list) (lists .exactly .wanted) in
+    let known = at-three word-0-0-1 room {m = 1} refl tt (omega arith) (omega arith) (omega arith) in
+    let turn = worked-0-0-1 .turn 1 (omega (arith, formula-is-one)) (startFor (atThree word-0-0-1 1) (worked-0-0-1 .h)) (λ i k. refl) in
+    let rest = rw none at (lists .rest) in (
+      near-same (lists .done) (lists .count ∙ ap length none) (updates-unique (known .places) (lists .updates-are) (record { h = worked-0-0-1 .h; through = worked-0-0-1 .through; allowance = 1; outcome = _; turn = turn; finished = refl; are = refl })) (lists .weight-is ∙ w),
+      ext-getD 0 after before (rest .long) (λ i k. rest .same i zero-le),
+    )
