@@ -1,8 +1,8 @@
 -- A product in lent bytes: a coefficient as the sum of its terms, and the bytes while the product goes in from the highest power down.
-use mathlib.Core.Path.{_≡_, ap, _∙_}
+use mathlib.Core.Path.{_≡_, refl, ap, _∙_}
 use mathlib.Core.Logic.{inl, inr, ⊎-elim}
 use mathlib.Core.List.{List}
-use Prim.Native.Nat.{ℕ, zero, suc, _+_, _-_, _≤_, _<_, min}
+use Prim.Native.Nat.{ℕ, zero, suc, _+_, _-_, _*_, _%_, _≤_, _<_, min}
 use native.Mathlib.Numerals.{add-one}
 use native.Mathlib.Decide.{ℕ-discrete}
 use native.Mathlib.Omega.{arith}
@@ -10,16 +10,13 @@ use lib.ListN.{length, getD, set, length-set, List·getD-eq-default}
 use lib.Seq.{getD-set-same, getD-set-other}
 use Rattle.field.specs.Ring.{Ring, RingLaws, sum}
 use Rattle.field.specs.Symbols.{Listed, Element, symbol, symbols, productOf}
-use Rattle.field.specs.Operations.{plusBytes, timesBytes}
 use Rattle.field.proofs.RingLaws.{add-zero, zero-mul}
 use Rattle.field.proofs.Sums.{sum-split, sum-null}
-use Rattle.field.proofs.SymbolLaws.{symbol-byte, symbols-field}
-use Rattle.field.proofs.OperationLaws.{symbol-timesBytes}
+use Rattle.field.proofs.SymbolLaws.{symbol-plus, symbol-times, symbol-same, symbols-field}
 use Rattle.poly.specs.Polynomials.{Seq, tail, mulS}
 use Rattle.poly.specs.Encode.{symbolsOf}
 use Rattle.poly.specs.Buffers.{from, productFrom, Kept, Product}
 use Rattle.poly.proofs.Series.{mulS-zero, mulS-suc, mulS-sum}
-use Rattle.poly.proofs.BufferLaws.{zero-byte}
 
 -- a coefficient of a product depends on no higher ones
 pub product-low : (R : Ring) (f g h : Seq R) (n : ℕ) → ((j : ℕ) → j ≤ n → g j ≡ h j) → mulS R f g n ≡ mulS R f h n
@@ -35,13 +32,15 @@ module _ (p : ℕ) (f : List ℕ) (xs : List ℕ) (at e : ℕ) where
   abbrev pub terms : ℕ → Element p
   terms i = sum (symbols p .ring) i term
 
-  pub terms-none : terms 0 .byte ≡ 0
+  pub terms-none : symbol p 0 ≡ terms 0
   unfolding sum
-  terms-none = zero-byte p
+  terms-none = refl
 
-  pub terms-more : (i : ℕ) → plusBytes p (terms i .byte) (timesBytes p (getD f i 0) (getD xs (at + (e - i)) 0)) ≡ terms (i + 1) .byte
-  unfolding plusBytes sum
-  terms-more i = rw (add-one, plusBytes, symbol-timesBytes, symbol-byte)
+  -- one product more, to any number that stands for the sum so far
+  pub terms-more : (i m n q : ℕ) → symbol p m ≡ terms i → n % p ≡ m % p → q ≡ getD f i 0 * getD xs (at + (e - i)) 0 → symbol p (n + q) ≡ terms (i + 1)
+  unfolding sum
+  terms-more i m n q is low product =
+      rw (add-one i, symbol-plus p n q, symbol-same p n m low, is, product, symbol-times p (getD f i 0) (getD xs (at + (e - i)) 0))
 
   module _ (l : Listed p) where
     L : RingLaws (symbols p .ring)
