@@ -24,13 +24,13 @@ use Rattle.rows.specs.declared.Turned.{Turned}
 use Rattle.rows.specs.declared.leading.Found.{Found}
 use Rattle.rows.proofs.Notes.{good-note, good-fine}
 use Rattle.rows.proofs.Soundness.{bytes-below}
-use Rattle.rows.proofs.Finding.{found-lead}
 use Rattle.rows.proofs.Stability.{as-left-stable}
 use Rattle.rows.proofs.Leads.{lead-unique, lead-within}
 use Rattle.rows.proofs.Entry.{sound-rises, sound-below, sound-update}
 use Rattle.rows.proofs.Places.{holds-bytes, holds-own, light-row}
 use Rattle.rows.proofs.Boxes.{update-flat, rowsOf-flat, holds-flat}
-use Rattle.rows.proofs.Updating.{due}
+use Rattle.rows.proofs.Finding.{found-lead}
+use Rattle.rows.proofs.CrossedRows.{due}
 
 -- n updates made before
 abbrev pub more : {F : Field} → ℕ → Outcome F → Outcome F
@@ -54,17 +54,19 @@ turn-ready first z =
     let long = short .0 in
     record { good = bad .0; bytes = bytes-below (good-fine (good-note (bad .0))) (omega arith) (left .below); sound = left .sound }
 
-pub going-begins : {S : Shape} {r : ℕ} {xs : List ℕ} (allowance : ℕ) → Bytes S xs → r ≤ suc (S .l) → Sound (symbols (S .p) .ring) (S .u) (S .width) (S .l) r (rowsOf S xs)
-    → Going S r allowance xs xs r allowance
-going-begins allowance b h s =
-    record {
-      bytes = b;
-      inside = h;
-      sound = s;
-      within = omega arith;
-      rest = record { long = refl; same = λ q k. refl };
-      back = λ o t. let e : allowance - allowance + o .updates ≡ o .updates = omega arith in rw e t;
-    }
+pub going-begins : {S : Shape} {note : Note} {xs : List ℕ} (allowance : ℕ) → S ≡ shapeOf note → Ready note xs → Going S (note .r) allowance xs xs (note .r) allowance
+going-begins {S} {note} {xs} allowance is ready = rw is begun
+  where
+    begun : Going (shapeOf note) (note .r) allowance xs xs (note .r) allowance
+    begun =
+        record {
+          bytes = ready .bytes;
+          inside = good-note (ready .good) .last;
+          sound = ready .sound;
+          within = omega arith;
+          rest = record { long = refl; same = λ q k. refl };
+          back = λ o t. let e : allowance - allowance + o .updates ≡ o .updates = omega arith in rw e t;
+        }
 
 module _ {S : Shape} {start allowance : ℕ} {before xs : List ℕ} {r left : ℕ} (g : Going S start allowance before xs r left) where
   abbrev F : Field

@@ -41,3 +41,6 @@ pub mod LowRows
 pub mod FilledRows
 pub mod Starting
 pub mod Ends
+pub mod Moving
+pub mod CrossedRows
+pub mod Vanishing

@@ -1,23 +1,24 @@
 -- Places: where a coefficient stands among the bytes of the rows, that each byte is one coefficient's, and the rows that bytes are.
 --   slot-end, row-end    slot j ends within its curve, row i within the rows; rows-apart, place-apart  rows do not overlap
 --   curve-small, rows-small, lift-inside   bounds of an accepted request
---   in-curve, in-rows    the coefficient that a byte is; slot-once, row-once  it is only one
+--   in-curve, in-rows    the coefficient that a byte is
 --   rowsOf-at, -byte     a coefficient and its byte; rowsOf-boxed  there is none outside
---   holds-rows           the rows that bytes hold are the rows that they are
+--   holds-bytes, -own    bytes that hold rows are below p, and those below p hold their own
 --   light-row, -curve    no term above the width, said of the bytes and of the curve
-use mathlib.Core.Path.{_≡_, refl, sym, ap, _∙_, fun-ext}
+use mathlib.Core.Path.{_≡_, refl, sym, _∙_}
 use mathlib.Core.Bool.{Bool, true, false}
 use mathlib.Core.Logic.{_⊎_, inl, inr}
 use mathlib.Core.List.{List}
 use Prim.Native.Nat.{ℕ, zero, suc, _+_, _*_, _/_, _%_, _≤_, _<_, zero-le}
-use native.Mathlib.Nat.{suc-mul, mul-le-mul, mul-le-mul-left, mul-le-mul-right, zero-mod, mod-lt, div-add-mod', div-lt-iff-lt-mul}
+use native.Mathlib.Nat.{suc-mul, mul-le-mul, mul-le-mul-left, mul-le-mul-right, mod-lt, div-add-mod', div-lt-iff-lt-mul}
 use native.Mathlib.Decide.{decLe, decLt}
 use native.Mathlib.Omega.{arith}
 use lib.Dec.{leb}
 use lib.ListN.{length, getD}
 use borrow.Author.Tests.{le-leb, lt-leb}
 use Rattle.field.specs.Symbols.{symbol, symbols}
-use Rattle.field.proofs.SymbolLaws.{byte-symbol, symbol-byte, symbol-own, byte-below}
+use Rattle.field.proofs.SymbolLaws.{symbol-own, byte-below}
+use Rattle.poly.proofs.BufferLaws.{zero-byte}
 use Rattle.rows.specs.Curves.{Curve, Under}
 use Rattle.rows.specs.Bytes.{slot, curveBytes, rowsBytes, place, within, rowsOf, Holds}
 use Rattle.rows.specs.Work.{Fine, Bytes, LightRow}
@@ -87,15 +88,6 @@ pub record InRows (S : Shape) (q : ℕ) : Type 0 where
 divide : (n q k : ℕ) → 0 < n → q < k * n → (q / n < k) × (q % n < n) × (q ≡ q / n * n + q % n)
 divide n q k h l = (div-lt-iff-lt-mul h .1 l, mod-lt q h, sym (div-add-mod' q n))
 
--- and there is only one
-pub divide-once : (n : ℕ) {i k a b : ℕ} → a < n → b < n → i * n + a ≡ k * n + b → (i ≡ k) × (a ≡ b)
-divide-once n {i} {k} {a} {b} h g e = go (decLt i k) (decLt k i)
-  where
-    go : Dec (i < k) → Dec (k < i) → (i ≡ k) × (a ≡ b)
-    go (yes l) d = let m = block-end n l in absurd (omega arith)
-    go (no l) (yes m) = let o = block-end n m in absurd (omega arith)
-    go (no l) (no m) = let p : i ≡ k = omega arith in let o = ap (λ (x : ℕ). x * n) p in (p, omega arith)
-
 module _ (S : Shape) where
   pub in-curve : {q : ℕ} → q < curveBytes S → InCurve S q
   in-curve {q} h =
@@ -114,22 +106,13 @@ module _ (S : Shape) where
       let e = c .is in
       record { row = q / curveBytes S; power = c .power; degree = c .degree; inside = omega arith; low = c .low; short = c .short; is = omega arith }
 
-  pub slot-once : {j k e d : ℕ} → e ≤ S .width → d ≤ S .width → j * slot S + e ≡ k * slot S + d → (j ≡ k) × (e ≡ d)
-  slot-once h g = divide-once (slot S) (omega arith) (omega arith)
-
-  pub row-once : {i k a b : ℕ} → a < curveBytes S → b < curveBytes S → i * curveBytes S + a ≡ k * curveBytes S + b → (i ≡ k) × (a ≡ b)
-  row-once = divide-once (curveBytes S)
-
--- no coefficient outside the rows, the slots and the width
-abbrev pub Boxed : (S : Shape) → (ℕ → Curve (symbols (S .p) .ring)) → Type 0
-Boxed S rows = (i j e : ℕ) → (S .l < i) ⊎ ((S .l < j) ⊎ (S .width < e)) → rows i j e ≡ symbol (S .p) 0
-
 module _ (S : Shape) (xs : List ℕ) where
   pub rowsOf-at : {i j e : ℕ} → i ≤ S .l → j ≤ S .l → e ≤ S .width → rowsOf S xs i j e ≡ symbol (S .p) (getD xs (place S i j e) 0)
   unfolding rowsOf
   rowsOf-at {i} {j} {e} g h k = rw (le-leb i (S .l) g, le-leb j (S .l) h, le-leb e (S .width) k)
 
-  pub rowsOf-boxed : Boxed S (rowsOf S xs)
+  -- no coefficient outside the rows, the slots and the width
+  pub rowsOf-boxed : (i j e : ℕ) → (S .l < i) ⊎ ((S .l < j) ⊎ (S .width < e)) → rowsOf S xs i j e ≡ symbol (S .p) 0
   unfolding rowsOf
   rowsOf-boxed i j e (inl h) = rw (lt-leb i (S .l) h)
   rowsOf-boxed i j e (inr (inl h)) = rw (lt-leb j (S .l) h) (go (leb i (S .l)))
@@ -146,18 +129,6 @@ module _ (S : Shape) (xs : List ℕ) where
 
 -- the bytes that hold rows
 module _ (S : Shape) (ys : List ℕ) (rows : ℕ → Curve (symbols (S .p) .ring)) (holds : Holds S ys rows) where
-  pub holds-rows : Boxed S rows → rowsOf S ys ≡ rows
-  holds-rows out = fun-ext (λ i. fun-ext (λ j. fun-ext (λ e. go i j e (decLe i (S .l)) (decLe j (S .l)) (decLe e (S .width)))))
-    where
-      outside : (i j e : ℕ) → (S .l < i) ⊎ ((S .l < j) ⊎ (S .width < e)) → rowsOf S ys i j e ≡ rows i j e
-      outside i j e o = rowsOf-boxed S ys i j e o ∙ sym (out i j e o)
-
-      go : (i j e : ℕ) → Dec (i ≤ S .l) → Dec (j ≤ S .l) → Dec (e ≤ S .width) → rowsOf S ys i j e ≡ rows i j e
-      go i j e (yes g) (yes h) (yes k) = rw (rowsOf-at S ys g h k, holds i j e g h k) (symbol-byte (S .p) (rows i j e))
-      go i j e (no g) y z = outside i j e (inl (omega arith))
-      go i j e (yes g) (no h) z = outside i j e (inr (inl (omega arith)))
-      go i j e (yes g) (yes h) (no k) = outside i j e (inr (inr (omega arith)))
-
   pub holds-bytes : Fine S → rowsBytes S ≤ length ys → Bytes S ys
   holds-bytes fine room =
       record {
@@ -177,7 +148,7 @@ module _ {S : Shape} {xs : List ℕ} (b : Bytes S xs) where
     rowsOf-byte = rw (rowsOf-at S xs g h k) (symbol-own (S .p) place-below)
 
     pub rowsOf-zero : rowsOf S xs i j e ≡ symbol (S .p) 0 → getD xs (place S i j e) 0 ≡ 0
-    rowsOf-zero z = sym rowsOf-byte ∙ rw z (byte-symbol (S .p) 0 ∙ zero-mod (S .p))
+    rowsOf-zero z = sym rowsOf-byte ∙ rw z (zero-byte (S .p))
 
   pub holds-own : Holds S xs (rowsOf S xs)
   holds-own i j e g h k = sym (rowsOf-byte g h k)

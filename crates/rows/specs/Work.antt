@@ -1,5 +1,6 @@
 -- What the inner functions of the rows ask and give, in terms of the curves that the bytes are.
 --   Fine S              the numbers of an accepted request: p is listed, and they are small enough to count with
+--   Placed S i j e      the coefficient of x^e y^j of row i has a place
 --   Bytes S xs          room for the rows, with every coefficient below p
 --   LightRow S xs i     no term of row i weighs more than the width
 --   SizeTo, Heavier     what the two parts of a search for the leading term say
@@ -7,6 +8,8 @@
 --   ZeroBetween xs a b  the bytes from a to b are zero
 --   SoundRow            what Sound says of row i
 --   Crosses             rows r and s lead at the same power s of y, at weights w and v
+--   delayedByte         a coefficient of x^d times a slot; Slots, SlotVanishes  what the test of one slot for zero asks and says
+--   Exchanges, Exchanged   what changing two runs of bytes asks and leaves
 --   Ready note xs       the note and the rows of an accepted turn; Went  what it leaves
 use mathlib.Core.Path.{_≡_}
 use mathlib.Core.Bool.{Bool, true, false}

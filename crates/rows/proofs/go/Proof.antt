@@ -53,13 +53,9 @@ cast-r c = search needs
 
 loop-holds : tie.Need-loop-holds Inv-loop μ-loop
 loop-holds c =
+    let is = c .before .of .ensures in
     let s = c .before .before .before in
-    let p = s .pre in (
-      c .before .of .ensures,
-      refl,
-      subst (λ (S : Shape). Going S (s .args .note .r) (s .args .allowance) (s .args .rows .now) (s .args .rows .now) (s .args .note .r) (s .args .allowance)) (sym (c .before .of .ensures))
-          (going-begins (s .args .allowance) (p .bytes) (good-note (p .good) .last) (p .sound)),
-    )
+    (is, refl, going-begins (s .args .allowance) is (s .pre))
 
 row-lead-requires : tie.Need-row-lead-requires Inv-loop μ-loop
 row-lead-requires c κs =

@@ -17,10 +17,10 @@ add-weight : tie.Need-add-weight
 add-weight c = search needs
 
 returns-2 : tie.Need-returns-2
-returns-2 c = lighter (omega arith) (c .before .before .if2 .taken) (c .if3 .taken)
+returns-2 c = lighter (omega arith) (c .before .before .if2 .taken) (omega arith)
 
 returns-3 : tie.Need-returns-3
-returns-3 c = heavier (omega arith) (λ _. c .if3 .left)
+returns-3 c = heavier (omega arith) (λ _. omega arith)
 
 returns-4 : tie.Need-returns-4
 returns-4 c = heavier (omega arith) (λ e. absurd (true≢false (sym e ∙ c .if2 .left)))

@@ -4,7 +4,7 @@ use native.Mathlib.Omega.{arith}
 use borrow.Author.Needs.{needs}
 use Rattle.field.proofs.OperationLaws.{invByte-below}
 use Rattle.rows.proofs.Places.{place-inside, place-below}
-use Rattle.rows.proofs.Updating.{place-r, place-s, ratio-byte}
+use Rattle.rows.proofs.CrossedRows.{place-r, place-s, ratio-byte}
 use Rattle.rows.proofs.update.ratio.Statement.{statement}
 use Rattle.rows.proofs.update.ratio.Tie as tie
 

@@ -1,14 +1,14 @@
 -- `rows::update::update` meets its contract: the kernels leave the bytes of the update.
-use mathlib.Core.Path.{_≡_, ap, _∙_}
+use mathlib.Core.Path.{_≡_}
 use Prim.Native.Nat.{ℕ, _+_, _*_, _≤_, _<_}
 use native.Mathlib.Omega.{arith}
 use borrow.Author.Needs.{needs}
-use Rattle.field.specs.Operations.{negByte}
 use Rattle.field.proofs.OperationLaws.{negByte-below}
 use Rattle.rows.specs.Bytes.{curveBytes}
 use Rattle.rows.specs.Work.{Crosses}
 use Rattle.rows.proofs.Places.{rows-small}
-use Rattle.rows.proofs.Updating.{crosses-w, crosses-v, ratio-below, row-in, width-in, asks-subtract, asks-swap, asks-scale, asks-subtract-too, subtract-leaves, exchange-leaves}
+use Rattle.rows.proofs.CrossedRows.{crosses-w, crosses-v, ratio-below}
+use Rattle.rows.proofs.Updating.{row-in, width-in, asks-subtract, asks-swap, asks-scale, asks-exchanged, subtract-leaves, exchange-leaves}
 use Rattle.rows.proofs.update.update.Statement.{statement}
 use Rattle.rows.proofs.update.update.Tie as tie
 
@@ -84,7 +84,7 @@ subtract-requires-2 c κs =
     let n = c .before .before .before .before in
     let w = n .before .before .before .before .before in
     let a = w .before .before .before in
-    asks-subtract-too (x a) (is a) (w .swap .ensures) (n .before .negative .result .value) (n .scale .ensures) (rw (c .negative2 .ensures) (negByte-below (x a .bytes .fine .size) _))
+    asks-exchanged (x a) (is a) (w .swap .ensures) (n .before .negative .result .value) (n .scale .ensures) (rw (c .negative2 .ensures) (negByte-below (x a .bytes .fine .size) _))
 
 returns : tie.Need-returns
 returns c =
@@ -102,8 +102,8 @@ returns-2 c =
     let n = m .before .before .before .before .before in
     let w = n .before .before .before .before .before in
     let a = w .before .before .before in
-    exchange-leaves (x a) (is a) (w .swap .ensures) (w .before .before .if1 .left) (n .before .negative .result .value) (m .before .negative2 .result .value)
-    (n .before .negative .ensures ∙ ap (negByte (s a .args .shape .p)) (a .ratio .ensures)) (m .before .negative2 .ensures) (n .scale .ensures) (m .subtract2 .ensures)
+    exchange-leaves (x a) (is a) (w .swap .ensures) (w .before .before .if1 .left) (a .ratio .result .value) (n .before .negative .result .value) (m .before .negative2 .result .value) (a .ratio .ensures)
+    (n .before .negative .ensures) (m .before .negative2 .ensures) (n .scale .ensures) (m .subtract2 .ensures)
 
 same-length-2 : tie.Need-same-length-2
 same-length-2 c = returns-2 c .1 .long

@@ -12,7 +12,8 @@ use Rattle.rows.specs.Turns.{ratio as ratioOf, cross}
 use Rattle.rows.specs.Bytes.{slot as slotOf, curveBytes, rowsOf}
 use Rattle.rows.specs.declared.Shape.{Shape}
 use Rattle.rows.proofs.Places.{slot-end, row-end, rows-small}
-use Rattle.rows.proofs.Updating.{ratio-below, Vanishing, vanishing-is, slot-zero, zero-slot, row-zero, slot-region}
+use Rattle.rows.proofs.CrossedRows.{ratio-below}
+use Rattle.rows.proofs.Vanishing.{Vanishing, vanishing-is, slot-zero, zero-slot, row-zero, slot-region}
 use Rattle.rows.proofs.update.vanishes.Statement.{statement}
 use Rattle.rows.proofs.update.vanishes.Tie as tie
 
