@@ -63,7 +63,7 @@ pub holds-curve : (S : Shape) (Q : Curve (symbols (S .p) .ring)) (bytes : List �
 holds-curve S Q bytes t j e h k = eqb→eq _ _ (all-at (slot S) (same S Q bytes j) (all-at (suc (S .l)) (λ j. all (slot S) (same S Q bytes j)) t j (omega arith)) e (omega arith))
 
 -- a word at the points 1, 2, 3 is in order
-at-places : (word : List ℕ) → length word ≡ 3 → T (small word) → Places 7 three word
+pub at-places : (word : List ℕ) → length word ≡ 3 → T (small word) → Places 7 three word
 at-places word long below =
     record { size = seven; count = omega arith; same = long; points-below = all-below three tt; word-below = all-below word below; different = all-different three tt }
 

@@ -13,15 +13,15 @@ use Rattle.poly.specs.Encode.{symbolsOf}
 use Rattle.poly.proofs.Evaluation.{value-more}
 use Rattle.poly.proofs.TableLaws.{first-determined}
 use Rattle.near.specs.Lists.{Task, task, one, polynomial, In, agreements, Wanted}
-use Rattle.near.specs.Job.{workingRoom, listTable, Answers, HasListed}
+use Rattle.near.specs.Job.{workingRoom, listTable, refusal, RuleUpdates, Answers, HasListed}
 use Rattle.near.specs.declared.Near.{Near}
 use Rattle.near.proofs.Determined.{updates-unique}
 use Rattle.near.proofs.Agreements.{agrees?, agreements-zero, agreements-suc}
 use Rattle.figures.specs.Figures.{three, atThree, word-0-0-1, ListGives}
-use Rattle.figures.proofs.Computed.{seven-laws, at-three}
-use Rattle.figures.proofs.Answers.{list-goes}
+use Rattle.figures.proofs.Computed.{seven-laws, at-places, at-three}
+use Rattle.figures.proofs.Numbers.{list-goes}
 use Rattle.figures.proofs.Calls.{smallest-weights, startFor, worked-smallest}
-use Rattle.figures.proofs.Word001.{h, h-only, formula-is-one, worked-0-0-1}
+use Rattle.figures.proofs.Word001.{h, h-is, formula-is-one, worked-0-0-1}
 
 -- n agreements at n places are one at each
 module _ {F : Field} (job : Task F) (g : Seq (F .ring)) where
@@ -52,7 +52,7 @@ job = task 7 three word-0-0-1 2 3
 nobody : (g : Seq (symbols 7 .ring)) → Wanted job g → ⊥
 unfolding symbol
 nobody g want =
-    let same : g ≡ h = h-only g (record {
+    let same : g ≡ h = h-is g .0 (record {
       short = λ i l. want .degree i (omega arith);
       hits = λ s l. value-more (seven-laws .ring) (symbolsOf 7 three s) 2 3 g (want .degree) (omega arith) ∙ agreements-all job g 3 (want .agrees) s l;
     }) in
@@ -77,7 +77,20 @@ told {t} {room} {before = before} some most large long listed =
     let s = worked-smallest known worked-0-0-1 in
     (listed .answers entry, smallest-weights (listed .answers entry .smallest) (s .0) ∙ s .1)
 
-pub list-2 : ListGives 2 (record { number = 13; count = 0; updates = 0; weight = 0 })
+-- the rule makes one update
+rule : RuleUpdates 7 three word-0-0-1 2 1 1 1
+rule =
+    record {
+      h = worked-0-0-1 .h;
+      through = worked-0-0-1 .through;
+      allowance = 1;
+      outcome = _;
+      turn = worked-0-0-1 .turn 1 (omega (arith, formula-is-one)) (startFor (atThree word-0-0-1 1) (worked-0-0-1 .h)) (λ i k. refl);
+      finished = refl;
+      are = refl;
+    }
+
+pub list-2 : ListGives 2 (refusal 13)
 list-2 room zeroed before after back large long listed = let (a, w) = told (omega arith) (omega arith) large long listed in a .unvouched (omega arith)
 
 pub list-3 : ListGives 3 (record { number = 0; count = 0; updates = 1; weight = 2 })
@@ -85,9 +98,6 @@ list-3 room zeroed before after back large long listed =
     let (a, w) = told (omega arith) (omega arith) large long listed in
     let lists = a .lists (omega arith) in
     let none = empty (lists .list) (lists .exactly .wanted) in
-    let known = at-three word-0-0-1 room {m = 1} refl tt (omega arith) (omega arith) (omega arith) in
-    let turn = worked-0-0-1 .turn 1 (omega (arith, formula-is-one)) (startFor (atThree word-0-0-1 1) (worked-0-0-1 .h)) (λ i k. refl) in
-    let rest = rw none at (lists .rest) in (
-      near-same (lists .done) (lists .count ∙ ap length none) (updates-unique (known .places) (lists .updates-are) (record { h = worked-0-0-1 .h; through = worked-0-0-1 .through; allowance = 1; outcome = _; turn = turn; finished = refl; are = refl })) (lists .weight-is ∙ w),
-      ext-getD 0 after before (rest .long) (λ i k. rest .same i zero-le),
-    )
+    let made = updates-unique (at-places word-0-0-1 refl tt) (lists .updates-are) rule in
+    let rest = rw none at (lists .rest) in
+    (near-same (lists .done) (lists .count ∙ ap length none) made (lists .weight-is ∙ w), ext-getD 0 after before (rest .long) (λ i k. rest .same i zero-le))

@@ -41,16 +41,15 @@ q = atThree word-0-0-1 1
 abbrev pub h : Seq R
 h = symbolsOf 7 (1 ∷ 2 ∷ 4 ∷ [])
 
-pub thr : Interpolates q h
+thr : Interpolates q h
 unfolding symbol sumOf productOf value
 thr = through three word-0-0-1 (1 ∷ 2 ∷ 4 ∷ []) refl tt
 
-pub h-only : (g : Seq R) → Interpolates q g → g ≡ h
-h-only g also =
-    interpolant-unique (seven-laws .ring) 3 (symbolsOf 7 three) (symbolsOf 7 word-0-0-1) g h (distinct-apart seven-laws 3 (symbolsOf 7 three) three-distinct) also thr
-
 pub h-is : (g : Seq R) → Interpolates q g ↔ (g ≡ h)
-h-is g = (h-only g, λ e. rw e thr)
+h-is g = (
+  λ also. interpolant-unique (seven-laws .ring) 3 (symbolsOf 7 three) (symbolsOf 7 word-0-0-1) g h (distinct-apart seven-laws 3 (symbolsOf 7 three) three-distinct) also thr,
+  λ e. rw e thr,
+)
 
 abbrev start : ℕ → Curve R
 start = startFor q h

@@ -24,7 +24,7 @@ use Rattle.rows.specs.Demands.{Request, ringFor, shapeFor, noteFor, updatesBoun
 use Rattle.rows.specs.declared.Started.{Started}
 use Rattle.rows.specs.declared.Turned.{Turned}
 use Rattle.rows.specs.declared.Finished.{Finished}
-use Rattle.near.specs.Job.{workingRoom, HasListed}
+use Rattle.near.specs.Job.{workingRoom, refusal, HasListed}
 use Rattle.near.specs.declared.Near.{Near}
 
 abbrev pub six : List ℕ
@@ -92,7 +92,7 @@ pub record Figures : Type 0 where
   pub curve-0-0-1 : (c : Calls (atThree word-0-0-1 1)) → Gives c 1 2 1 ((2 ∷ 4 ∷ 1 ∷ 0 ∷ []) ++ (5 ∷ 0 ∷ 0 ∷ 0 ∷ []))
   pub lightest-0-0-1 : (c : Calls (atThree word-0-0-1 1)) → Lightest (symbols 7 .ring) 1 1 (rowsOf (shapeFor (atThree word-0-0-1 1)) (c .new)) 0 2
   pub list-t-3 : ListGives 3 (record { number = 0; count = 0; updates = 1; weight = 2 })
-  pub list-t-2 : ListGives 2 (record { number = 13; count = 0; updates = 0; weight = 0 })
+  pub list-t-2 : ListGives 2 (refusal 13)
   -- no update, weight 2 and height 2: y^2
   pub curve-0-0-0 : (c : Calls (atThree (0 ∷ 0 ∷ 0 ∷ []) 2)) → Gives c 0 2 2 ((0 ∷ 0 ∷ 0 ∷ 0 ∷ 0 ∷ 0 ∷ 0 ∷ []) ++ (0 ∷ 0 ∷ 0 ∷ 0 ∷ 0 ∷ 0 ∷ 0 ∷ []) ++ (1 ∷ 0 ∷ 0 ∷ 0 ∷ 0 ∷ 0 ∷ 0 ∷ []))
   -- in general y^m, of weight m (k - 1)
