@@ -1,0 +1,95 @@
+/* Pluckcluster's jobs for C. Link the static library of the crate `boards` (`rt staticlib boards`).
+
+   What holds of each call is proved of the functions in src/lib.rt. Nothing checks these declarations against that file: the two are
+   to be changed together.
+
+   - Every call returns a number of the table below; the first that applies is given, in the order that stands with the call.
+   - A room is an address and a length in bytes. An address is never null, also where the length is 0. The rooms lent to one call
+     do not overlap. A room may be longer than asked for: its excess is never written.
+   - A call keeps nothing: all there is of an interpolation is its rows and its note, and both belong to the caller.
+   - Wherever `note` or `back` is too short the number is 9 before anything else, and nothing is touched. */
+#ifndef PLUCK_H
+#define PLUCK_H
+
+#include <stddef.h>
+#include <stdint.h>
+
+#ifdef __cplusplus
+extern "C" {
+#endif
+
+/* The numbers that a call returns. */
+enum {
+    PLUCK_DONE = 0,
+    PLUCK_FIELD = 1,     /* p is none of 3, 5, 7, 11, 13, 17, 19, 23, 29, 31 */
+    PLUCK_COUNT = 2,     /* n, the count of points, is below 3 or above p */
+    PLUCK_LENGTH = 3,    /* the word's length is not n */
+    PLUCK_DEGREE = 4,    /* k is below 2 or above n - 1 */
+    PLUCK_HEIGHTS = 5,   /* m is outside 1 to 4, or l outside m to 8 */
+    PLUCK_SYMBOL = 6,    /* a point or symbol is p or more */
+    PLUCK_REPEATED = 7,  /* two points are equal */
+    PLUCK_WANTED = 8,    /* t is below 1 or above n */
+    PLUCK_SHORT = 9,     /* a lent room is too short */
+    PLUCK_NOTE = 10,     /* 1, 2, 4 or 5 would apply to the note, or its r is outside 1 to l + 1 */
+    PLUCK_ROWS = 11,     /* the rows are not as a turn leaves them */
+    PLUCK_EARLY = 12,    /* finish was asked with r below l + 1 */
+    PLUCK_UNVOUCHED = 13 /* m t is not above the curve's weight: the list would not be sure to be whole */
+};
+
+/* The sizes of the rooms, in bytes. W is the greatest weight: no term of a row weighs more. */
+#define PLUCK_W(n, k, m, l) ((m) * (n) + ((l) - (m)) * ((k) - 1))
+#define PLUCK_SLOT_BYTES(n, k, m, l) (PLUCK_W(n, k, m, l) + 1)                          /* one power of y, lowest power of x first */
+#define PLUCK_CURVE_BYTES(n, k, m, l) (((l) + 1) * PLUCK_SLOT_BYTES(n, k, m, l))        /* slots by rising power of y */
+#define PLUCK_ROWS_BYTES(n, k, m, l) (((l) + 1) * PLUCK_CURVE_BYTES(n, k, m, l))        /* rows 0 to l */
+#define PLUCK_MESSAGES_BYTES(k, l) ((l) * (k))
+#define PLUCK_ROOM_BYTES 32768
+#define PLUCK_CURVE_MOST 2169 /* the largest of all settings: l = 8, W = 240 */
+#define PLUCK_ROWS_MOST 19521
+
+/* A note: six bytes, in this order. The work is finished when r is l + 1. */
+enum { PLUCK_NOTE_P, PLUCK_NOTE_N, PLUCK_NOTE_K, PLUCK_NOTE_M, PLUCK_NOTE_L, PLUCK_NOTE_R, PLUCK_NOTE_BYTES };
+
+/* What a call hands back beside its number: five bytes, in this order. Each call that lends `back` writes all five, zero for what it
+   does not hand back. After a refusal all five are zero, but for the late 11 of a turn. */
+enum { PLUCK_BACK_UPDATES_LOW, PLUCK_BACK_UPDATES_HIGH, PLUCK_BACK_WEIGHT, PLUCK_BACK_HEIGHT, PLUCK_BACK_COUNT, PLUCK_BACK_BYTES };
+
+static inline uint16_t pluck_updates(const uint8_t *back) {
+    return (uint16_t)(back[PLUCK_BACK_UPDATES_LOW] + 256 * back[PLUCK_BACK_UPDATES_HIGH]);
+}
+
+/* Encode: byte s of the word becomes the message's value at point s. n is the count of points, k the message's length.
+   Refusals: 1, 2, 4, 6, 7, 9 (the word has n bytes). Writes the first n bytes of the word; after a refusal nothing. */
+uint8_t pluck_encode(uint8_t p, const uint8_t *points, size_t points_len, const uint8_t *message, size_t message_len, uint8_t *word,
+                     size_t word_len);
+
+/* Start: the rows become those that an interpolation begins with, and the note p, n, k, m, l and r = 1.
+   Refusals: 1, 2, 3, 4, 5, 6, 7, 9 (the rows have PLUCK_ROWS_BYTES). Writes PLUCK_ROWS_BYTES of the rows and the six bytes of the
+   note; after a refusal the rows are as they were and the note is six zeros. */
+uint8_t pluck_start(uint8_t p, const uint8_t *points, size_t points_len, const uint8_t *word, size_t word_len, uint8_t k, uint8_t m, uint8_t l,
+                    uint8_t *rows, size_t rows_len, uint8_t *note, size_t note_len);
+
+/* Turn: at most `allowance` updates, from the note's row on. Hands back the updates made, and the next note in the place of the note.
+   Refusals: 10, 9, 11. Writes PLUCK_ROWS_BYTES of the rows, the note's r, and `back`; after a refusal rows and note are as they were.
+   A turn also gives 11, later, when an update would make a row zero: that update is not made, and rows, note and updates are
+   those just before it. From a start this never happens. */
+uint8_t pluck_turn(uint8_t *note, size_t note_len, uint8_t *rows, size_t rows_len, uint16_t allowance, uint8_t *back, size_t back_len);
+
+/* Finish: the row with the smallest leading term, made monic. Hands back its weight and height.
+   Refusals: 10, 9 (rows, or a curve with less than PLUCK_CURVE_BYTES), 12, 11. Writes PLUCK_CURVE_BYTES of the curve, and `back`; after
+   a refusal the curve is as it was. */
+uint8_t pluck_finish(const uint8_t *note, size_t note_len, const uint8_t *rows, size_t rows_len, uint8_t *curve, size_t curve_len, uint8_t *back,
+                     size_t back_len);
+
+/* List: all messages that agree with the word at t places or more, k symbols each with the constant first, in ascending order. Hands back
+   their count (at most l), all updates made and the curve's weight. An empty list is number 0 with count 0.
+   Refusals: 1 to 9 in order (9: a room below PLUCK_ROOM_BYTES, messages below PLUCK_MESSAGES_BYTES), then 13. Leaves the first PLUCK_ROOM_BYTES
+   of the room zero, after 0 and after 13; writes count times k bytes of the messages, and `back`. After 1 to 9 room and messages
+   are as they were, after 13 the messages. */
+uint8_t pluck_list(uint8_t p, const uint8_t *points, size_t points_len, const uint8_t *word, size_t word_len, uint8_t k, uint8_t m, uint8_t l,
+                   uint8_t t, uint8_t *room, size_t room_len, uint8_t *messages, size_t messages_len, uint8_t *back, size_t back_len);
+
+#ifdef __cplusplus
+}
+#endif
+
+#endif

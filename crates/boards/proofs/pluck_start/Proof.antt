@@ -1,0 +1,37 @@
+-- `pluck_start` meets its contract: the job's own contract, and its note in the lent bytes.
+use mathlib.Core.Path.{refl}
+use Rattle.boards.specs.Calls.{StartCall}
+use borrow.Author.Needs.{needs}
+use Rattle.boards.proofs.pluck_start.Statement.{statement}
+use Rattle.boards.proofs.pluck_start.Tie as tie
+
+returns : tie.Need-returns
+returns c = StartCall.short (c .if1 .taken) refl refl refl
+
+start-requires : tie.Need-start-requires
+start-requires c κs = search needs
+
+write-note-requires : tie.Need-write-note-requires
+write-note-requires c κs = search needs
+
+same-length : tie.Need-same-length
+same-length c = search needs
+
+same-length-2 : tie.Need-same-length-2
+same-length-2 c = search needs
+
+returns-2 : tie.Need-returns-2
+returns-2 c =
+    let noted = c .before .before in
+    let started = noted .before .before .before .before in
+    StartCall.done
+    (started .before .before .if1 .left)
+    (started .start .result)
+    (started .start .ensures)
+    refl
+    (noted .write-note .ensures)
+
+pub pluck-start-spec : {M : Type 1} → statement M
+pluck-start-spec =
+    tie.close
+    (tie.spec returns start-requires write-note-requires same-length same-length-2 returns-2)

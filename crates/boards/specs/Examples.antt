@@ -1,0 +1,21 @@
+-- The definitions on small numbers, by computation: 300 updates are the bytes 44 and 1, as 300 = 1 * 256 + 44.
+use mathlib.Core.Path.{_≡_, refl}
+use mathlib.Core.List.{List, [], _∷_}
+use Prim.Native.Nat.{ℕ}
+use Rattle.rows.specs.declared.Note.{Note}
+use Rattle.boards.specs.Lent.{noteOf, noteInto, backInto}
+
+abbrev lent : List ℕ
+lent = 9 ∷ 9 ∷ 9 ∷ 9 ∷ 9 ∷ 9 ∷ 9 ∷ []
+
+abbrev note : Note
+note = record { p = 7; n = 6; k = 3; m = 2; l = 3; r = 1 }
+
+note-example : noteInto note lent ≡ 7 ∷ 6 ∷ 3 ∷ 2 ∷ 3 ∷ 1 ∷ 9 ∷ []
+note-example = refl
+
+read-example : noteOf (noteInto note lent) ≡ note
+read-example = refl
+
+back-example : backInto (record { updates = 300; weight = 7; height = 3; count = 2 }) lent ≡ 44 ∷ 1 ∷ 7 ∷ 3 ∷ 2 ∷ 9 ∷ 9 ∷ []
+back-example = refl

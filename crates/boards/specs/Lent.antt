@@ -1,0 +1,26 @@
+-- How a note, and what a job hands back beside its number, lie in lent bytes.
+--   noteBytes, backBytes    the bytes that each takes
+--   noteOf xs               the note in the first bytes of xs: p, n, k, m, l, r
+--   noteInto note xs        xs with the note in its first bytes
+--   backInto back xs        xs with what is handed back in its first bytes: the updates, low byte first, the weight, the height, the count
+use mathlib.Core.List.{List, [], _∷_}
+use Prim.Native.Nat.{ℕ, _/_, _%_}
+use lib.ListN.{getD}
+use lib.Seq.{sets}
+use Rattle.rows.specs.declared.Note.{Note}
+use Rattle.boards.specs.declared.Back.{Back}
+
+abbrev pub noteBytes : ℕ
+noteBytes = 6
+
+abbrev pub backBytes : ℕ
+backBytes = 5
+
+abbrev pub noteOf : List ℕ → Note
+noteOf xs = record { p = getD xs 0 0; n = getD xs 1 0; k = getD xs 2 0; m = getD xs 3 0; l = getD xs 4 0; r = getD xs 5 0 }
+
+abbrev pub noteInto : Note → List ℕ → List ℕ
+noteInto note xs = sets xs 0 (note .p ∷ note .n ∷ note .k ∷ note .m ∷ note .l ∷ note .r ∷ [])
+
+abbrev pub backInto : Back → List ℕ → List ℕ
+backInto back xs = sets xs 0 (back .updates % 256 ∷ back .updates / 256 ∷ back .weight ∷ back .height ∷ back .count ∷ [])
