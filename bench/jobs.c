@@ -1,0 +1,182 @@
+/* The library against the plain program, job by job: first every byte compared, then the time of each. Prints tables, and ends with status 1 if a
+   byte differs, or if interpolation or the list takes the library more than twice the plain program's time at any count of errors. */
+#include "both.h"
+#include <stdio.h>
+#include <stdlib.h>
+#include <string.h>
+
+/* The setting of a departure: field 31, all its points, 6 symbols, up to 15 errors. */
+enum { P = 31, N = 31, K = 6, M = 4, L = 8, ERRORS = 15, T = N - ERRORS, WORDS = 3, ROUNDS = 15, CASES = 2000 };
+
+static const uint8_t FIELDS[] = {3, 5, 7, 11, 13, 17, 19, 23, 29, 31};
+
+/* ---- the same bytes ---- */
+
+static request any_setting(void) {
+    int p = FIELDS[any(sizeof FIELDS)], n = 3 + (int)any((unsigned)p - 2), k = 2 + (int)any((unsigned)n - 2);
+    int m = 1 + (int)any(4), l = m + (int)any((unsigned)(9 - m)), t = 1 + (int)any((unsigned)n);
+    request q = any_request(p, n, k, m, l, t, (int)any((unsigned)n / 2 + 1));
+    if (any(4) == 0) any_word(&q);
+    return q;
+}
+
+/* All five jobs, the turns with allowances by chance; the number of the list. */
+static int compare_case(const request *q) {
+    static side library, plain;
+    memset(&library, 0, sizeof library);
+    memset(&plain, 0, sizeof plain);
+    do_both(ENCODE, q, &library, &plain);
+    do_both(START, q, &library, &plain);
+    while (library.note[PLUCK_NOTE_R] <= q->l) turn_both(q, &library, &plain, (int)any(60));
+    do_both(FINISH, q, &library, &plain);
+    do_both(LIST, q, &library, &plain);
+    return library.number;
+}
+
+static void compare_all(void) {
+    int listed = 0;
+    for (int i = 0; i < CASES; i++) {
+        request q = any_setting();
+        listed += compare_case(&q) == PLUCK_DONE;
+    }
+    printf("The same bytes after every call in %d requests over all ten fields; %d of them had a list, the others number 13.\n\n", CASES, listed);
+}
+
+/* ---- the jobs, by errors ---- */
+
+/* Sums over some words. */
+typedef struct {
+    times of[JOBS];
+    int words, updates, weight, count;
+} measured;
+
+static double ratio(times t) { return t.library / t.plain; }
+
+/* The greatest ratio of each job so far. */
+static double worst[JOBS];
+
+static void judge(const measured *s) {
+    for (int j = 0; j < JOBS; j++)
+        if (ratio(s->of[j]) > worst[j]) worst[j] = ratio(s->of[j]);
+}
+
+static void measure_job(measured *sum, int which, const request *q, const side *before, int calls) {
+    times t = measure(which, q, before, ROUNDS, calls);
+    sum->of[which].library += t.library;
+    sum->of[which].plain += t.plain;
+}
+
+static void measure_word(measured *sum, const request *q) {
+    static side s;
+    memset(&s, 0, sizeof s);
+    measure_job(sum, ENCODE, q, &s, 500);
+    measure_job(sum, START, q, &s, 1);
+    measure_job(sum, INTERPOLATION, q, &s, 1);
+    measure_job(sum, LIST, q, &s, 1);
+    JOB[LIST].library(q, &s);
+    sum->words++;
+    sum->updates += pluck_updates(s.back);
+    sum->weight += s.back[PLUCK_BACK_WEIGHT];
+    sum->count += s.back[PLUCK_BACK_COUNT];
+    JOB[START].library(q, &s);
+    measure_job(sum, TURN, q, &s, 1);
+    JOB[TURN].library(q, &s);
+    measure_job(sum, FINISH, q, &s, 20);
+}
+
+static void print_jobs(const measured *s) {
+    printf("| job             | library us | plain us | ratio |\n|---|---:|---:|---:|\n");
+    for (int j = 0; j < JOBS; j++)
+        printf("| %-15s | %10.1f | %8.1f | %5.2f |\n", JOB[j].name, s->of[j].library / s->words / 1000, s->of[j].plain / s->words / 1000, ratio(s->of[j]));
+    printf("\n");
+}
+
+static void print_errors(int errors, const measured *s) {
+    printf("| %6d | %7.0f | %6.1f | %11.1f | %15.2f | %4.2f |\n", errors, (double)s->updates / s->words, (double)s->weight / s->words,
+           (double)s->count / s->words, ratio(s->of[INTERPOLATION]), ratio(s->of[LIST]));
+    fflush(stdout);
+}
+
+static void add(measured *sum, const measured *s) {
+    for (int j = 0; j < JOBS; j++) {
+        sum->of[j].library += s->of[j].library;
+        sum->of[j].plain += s->of[j].plain;
+    }
+    sum->words += s->words;
+}
+
+static measured by_errors(void) {
+    measured all = {0};
+    printf("| errors | updates | weight | on the list | start to finish | list |\n|---:|---:|---:|---:|---:|---:|\n");
+    for (int errors = 0; errors <= ERRORS; errors++) {
+        measured s = {0};
+        for (int i = 0; i < WORDS; i++) {
+            request q = any_request(P, N, K, M, L, T, errors);
+            measure_word(&s, &q);
+        }
+        print_errors(errors, &s);
+        judge(&s);
+        add(&all, &s);
+    }
+    return all;
+}
+
+/* ---- l messages on the list ---- */
+
+/* A place for each x where two or more of the lines meet; gives the fewest places that a line has. */
+static int meet(const uint8_t lines[L][2], request *q) {
+    int on[L] = {0}, least = P;
+    q->n = 0;
+    for (int x = 0; x < P; x++) {
+        int through[P] = {0}, best = 0;
+        for (int i = 0; i < L; i++) through[(lines[i][0] + lines[i][1] * x) % P]++;
+        for (int y = 1; y < P; y++)
+            if (through[y] > through[best]) best = y;
+        if (through[best] < 2) continue;
+        for (int i = 0; i < L; i++) on[i] += (lines[i][0] + lines[i][1] * x) % P == best;
+        q->points[q->n] = (uint8_t)x;
+        q->word[q->n++] = (uint8_t)best;
+    }
+    for (int i = 0; i < L; i++)
+        if (on[i] < least) least = on[i];
+    return least;
+}
+
+/* A word on l lines, two or more of them through each place. Their product passes every place twice and weighs l, so with m = 2 a list is sure to have
+   all that have more than l/2 places; here each line has. */
+static request on_lines(void) {
+    request q = {P, 0, 2, 2, L, L / 2 + 1, {0}, {0}, {0}};
+    uint8_t lines[L][2];
+    do
+        for (int i = 0; i < L; i++) lines[i][0] = (uint8_t)any(P), lines[i][1] = (uint8_t)i;
+    while (meet(lines, &q) < q.t);
+    memcpy(q.message, lines[0], 2);
+    return q;
+}
+
+static measured many_roots(void) {
+    measured s = {0};
+    request q = on_lines();
+    measure_word(&s, &q);
+    printf("Field 31, n = %d, k = 2, m = 2, l = 8, t = %d: weight %d, %d updates, %d messages on the list.\n\n", q.n, q.t, s.weight, s.updates, s.count);
+    if (s.count != L) {
+        printf("not l messages on the list\n");
+        exit(1);
+    }
+    judge(&s);
+    return s;
+}
+
+int main(void) {
+    compare_all();
+    printf("### Words with 0 to %d errors\n\nField %d, n = %d, k = %d, m = %d, l = %d, t = %d; %d words to a line. ", ERRORS, P, N, K, M, L, T, WORDS);
+    printf("The last two columns are library/plain.\n\n");
+    measured all = by_errors();
+    printf("\nAll of these words, by the word:\n\n");
+    print_jobs(&all);
+    printf("### As many messages as a list can have\n\n");
+    measured many = many_roots();
+    print_jobs(&many);
+    printf("The worst of all lines, each to be at most 2: interpolation=%.2f list=%.2f\n\n", worst[INTERPOLATION], worst[LIST]);
+    return worst[INTERPOLATION] > 2 || worst[LIST] > 2;
+}
