@@ -1,12 +1,12 @@
--- `listing::answer` meets its contract: it reads, lists and prints.
+-- `program::answer` meets its contract: it reads, lists and prints.
 use mathlib.Core.Path.{_≡_, sym}
 use lib.Seq.{length-take-le}
 use borrow.Author.Tests.{not-true, not-false}
 use Rattle.text.proofs.Outcomes.{write-within}
-use Rattle.listing.proofs.Answers.{read-inside, unread-answer, listed-answer}
+use Rattle.program.proofs.Answers.{read-inside, unread-answer, listed-answer}
 use borrow.Author.Needs.{needs}
-use Rattle.listing.proofs.answer.Statement.{statement}
-use Rattle.listing.proofs.answer.Tie as tie
+use Rattle.program.proofs.answer.Statement.{statement}
+use Rattle.program.proofs.answer.Tie as tie
 
 read-requires : tie.Need-read-requires
 read-requires c κs = search needs
@@ -60,7 +60,7 @@ same-length-2 : tie.Need-same-length-2
 same-length-2 c = search needs
 
 returns-2 : tie.Need-returns-2
-returns-2 c = (listed-answer _ _ _ _ _ (c .before .before .before .before .before .before .before .before .before .before .before .before .before .before .before .before .before .before .read .ensures) (not-false _ (c .before .before .before .before .before .before .before .before .before .before .before .before .before .before .before .before .if1 .left)) (c .before .before .before .before .before .before .before .list .ensures) (c .before .before .write2 .ensures), write-within (c .before .before .write2 .ensures) (search needs))
+returns-2 c = (listed-answer _ _ _ (c .before .before .before .before .before .before .before .before .before .before .before .before .before .before .before .before .before .before .read .ensures) (not-false _ (c .before .before .before .before .before .before .before .before .before .before .before .before .before .before .before .before .if1 .left)) (c .before .before .before .before .before .before .before .list .ensures) (c .before .before .write2 .ensures), write-within (c .before .before .write2 .ensures) (search needs))
 
 pub answer-spec : {M : Type 1} → statement M
 answer-spec =
