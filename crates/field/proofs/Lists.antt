@@ -1,13 +1,12 @@
 -- Tabulated lists, and lists in which a run of entries is set: their lengths, their entries, and a run made one longer.
-use mathlib.Core.Path.{_≡_, refl, sym, ap, _∙_}
+use mathlib.Core.Path.{_≡_, refl, ap, _∙_}
 use mathlib.Core.List.{List, [], _∷_, _++_}
-use mathlib.Core.Logic.{_⊎_, inl, inr, ⊎-elim}
-use Prim.Native.Nat.{ℕ, zero, suc, _+_, _-_, _<_, _≤_}
+use mathlib.Core.Logic.{_⊎_, ⊎-elim}
+use Prim.Native.Nat.{ℕ, zero, suc, _+_, _<_, _≤_}
 use native.Mathlib.Nat.{add-zero, zero-add}
-use native.Mathlib.Decide.{decLt}
 use native.Mathlib.Omega.{arith}
 use lib.ListN.{length, getD, set, length-set}
-use lib.Seq.{sets, length-sets, getD-set-same, getD-set-other, ext-getD}
+use lib.Seq.{sets, getD-set-same, getD-set-other}
 use Rattle.field.specs.Lists.{tabulateFrom, tabulate}
 
 module _ {A : Type 0} where
@@ -40,11 +39,6 @@ module _ {A : Type 0} where
   pub tabulate-suc : (n : ℕ) (f : ℕ → A) → tabulate (suc n) f ≡ tabulate n f ++ (f n ∷ [])
   unfolding tabulate
   tabulate-suc n f = from-suc zero n f ∙ rw zero-add
-
-  pub tabulate-cong : (n : ℕ) (f g : ℕ → A) → ((i : ℕ) → i < n → f i ≡ g i) → tabulate n f ≡ tabulate n g
-  unfolding tabulate tabulateFrom
-  tabulate-cong zero f g h = refl
-  tabulate-cong (suc n) f g h = rw (tabulate-suc n f, tabulate-suc n g, h n (omega arith), tabulate-cong n f g (λ i k. h i (omega arith)))
 
   -- runs of stores
   pub sets-append : (l : List A) (at : ℕ) (us vs : List A) → sets l at (us ++ vs) ≡ sets (sets l at us) (at + length us) vs
@@ -91,18 +85,3 @@ module _ {A : Type 0} where
   sets-tabulate-outside l at n f j d o =
       let e = length-tabulate n f in
       ⊎-elim (λ h. getD-sets-before l at (tabulate n f) j d h) (λ h. getD-sets-after l at (tabulate n f) j d (omega arith)) o
-
-  -- and nothing else becomes of the list: a list of that length with these entries is this one
-  pub sets-tabulate-only : (l m : List A) (at n : ℕ) (f : ℕ → A) (d : A) → at + n ≤ length l → length m ≡ length l
-      → ((i : ℕ) → i < n → getD m (at + i) d ≡ f i) → ((j : ℕ) → (j < at) ⊎ (at + n ≤ j) → getD m j d ≡ getD l j d)
-      → m ≡ sets l at (tabulate n f)
-  sets-tabulate-only l m at n f d h e inside outside =
-      ext-getD d m (sets l at (tabulate n f)) (e ∙ sym (length-sets l at (tabulate n f))) (λ j k. go j (decLt j at) (decLt j (at + n)))
-    where
-      go : (j : ℕ) → Dec (j < at) → Dec (j < at + n) → getD m j d ≡ getD (sets l at (tabulate n f)) j d
-      go j (yes b) q = outside j (inl b) ∙ sym (sets-tabulate-outside l at n f j d (inl b))
-      go j (no b) (yes c) =
-          let i : at + (j - at) ≡ j = omega arith in
-          let k : j - at < n = omega arith in
-          rw (← i) (inside (j - at) k ∙ sym (sets-tabulate-inside l at n f (j - at) d h k))
-      go j (no b) (no c) = outside j (inr (omega arith)) ∙ sym (sets-tabulate-outside l at n f j d (inr (omega arith)))

@@ -1,21 +1,15 @@
 -- The bytes that the operations give: as remainders, which the code computes, and as symbols, for the algebra.
-use mathlib.Core.Path.{_≡_, refl, sym, ap, _∙_}
+use mathlib.Core.Path.{_≡_}
 use Prim.Native.Nat.{ℕ, _+_, _-_, _*_, _%_, _<_}
 use native.Mathlib.Nat.{mod-eq-of-lt, mod-add-mod, add-mod-mod}
 use native.Mathlib.Omega.{arith}
-use Rattle.field.specs.Ring.{Ring}
-use Rattle.field.specs.Field.{Field}
-use Rattle.field.specs.Symbols.{Listed, Element, symbol, sumOf, productOf, negativeOf, inverseOf, symbols}
+use Rattle.field.specs.Symbols.{Listed, symbol, sumOf, productOf, negativeOf, inverseOf}
 use Rattle.field.specs.Operations.{plusBytes, minusBytes, timesBytes, negByte, invByte}
 use Rattle.field.proofs.RingLaws.{neg-mul}
-use Rattle.field.proofs.SymbolLaws.{mod-mul, mul-mod, byte-symbol, symbol-byte, symbol-own, symbol-plus, symbol-times, symbol-opposite, symbols-ring, byte-below, inverse-zero}
+use Rattle.field.proofs.SymbolLaws.{mod-mul, mul-mod, byte-symbol, symbol-byte, symbol-plus, symbol-times, symbol-opposite, symbols-ring, byte-below}
 
 module _ (p : ℕ) where
   -- as symbols
-  pub symbol-plusBytes : (a b : ℕ) → symbol p (plusBytes p a b) ≡ sumOf p (symbol p a) (symbol p b)
-  unfolding plusBytes
-  symbol-plusBytes a b = symbol-byte p _
-
   pub symbol-minusBytes : (a b : ℕ) → symbol p (minusBytes p a b) ≡ sumOf p (symbol p a) (negativeOf p (symbol p b))
   unfolding minusBytes
   symbol-minusBytes a b = symbol-byte p _
@@ -55,12 +49,8 @@ module _ (p : ℕ) where
   minus-times-mod {c} a b h =
       rw (← byte-symbol p (a + (p - c) * b), symbol-plus, symbol-times, symbol-opposite p h, minusBytes, symbol-timesBytes, neg-mul (symbols-ring p (omega arith)) (symbol p c) (symbol p b))
 
--- every operation gives a symbol's byte; the inverse of 0 is given as 0
+-- every operation gives a symbol's byte
 module _ {p : ℕ} (l : Listed p) where
-  pub plusBytes-below : (a b : ℕ) → plusBytes p a b < p
-  unfolding plusBytes
-  plusBytes-below a b = byte-below l (sumOf p (symbol p a) (symbol p b))
-
   pub minusBytes-below : (a b : ℕ) → minusBytes p a b < p
   unfolding minusBytes
   minusBytes-below a b = byte-below l (sumOf p (symbol p a) (negativeOf p (symbol p b)))
@@ -72,10 +62,6 @@ module _ {p : ℕ} (l : Listed p) where
   pub negByte-below : (a : ℕ) → negByte p a < p
   unfolding negByte
   negByte-below a = byte-below l (negativeOf p (symbol p a))
-
-  pub invByte-zero : invByte p 0 ≡ 0
-  unfolding invByte
-  invByte-zero = ap (λ (x : Element p). x .byte) (inverse-zero l) ∙ symbol-own p (omega (arith, l .large))
 
   pub invByte-below : (a : ℕ) → invByte p a < p
   unfolding invByte

@@ -1,13 +1,13 @@
 -- Finite sums and products, and powers.
-use mathlib.Core.Path.{_≡_, refl, sym, ap, _∙_}
+use mathlib.Core.Path.{_≡_, refl, sym, _∙_}
 use mathlib.Core.Logic.{_≢_}
-use mathlib.Core.List.{List, [], _∷_}
-use Prim.Native.Nat.{ℕ, zero, suc, _+_, _-_, _≤_, _<_}
-use native.Mathlib.Nat.{suc-sub-suc, sub-zero, add-suc, add-zero as n-add-zero}
+use mathlib.Core.List.{[], _∷_}
+use Prim.Native.Nat.{ℕ, zero, suc, _+_, _<_}
+use native.Mathlib.Nat.{add-suc, add-zero as n-add-zero}
 use native.Mathlib.Omega.{arith}
 use native.Mathlib.Decide.{ℕ-discrete}
 use Rattle.field.specs.Ring.{Ring, RingLaws, pow, sum, prod}
-use Rattle.field.proofs.RingLaws.{add-zero, zero-add, add-assoc, add-comm, mul-zero, zero-mul, mul-add, add-mul, mul-one, Sums}
+use Rattle.field.proofs.RingLaws.{add-zero, zero-add, add-assoc, mul-zero, mul-add, mul-one, Sums}
 use Rattle.field.proofs.RingTactic.{ring, reading}
 
 -- the clauses, as equations to rewrite by
@@ -67,14 +67,6 @@ module _ {R : Ring} (L : RingLaws R) where
   sum-mul c zero f = simp (sum-zero, mul-zero)
   sum-mul c (suc n) f = simp (sum-suc, sum-mul c n f, mul-add)
 
-  pub sum-mul-right : (c : Car) (n : ℕ) (f : ℕ → Car) → sum R n (λ i. f i ⊗ c) ≡ sum R n f ⊗ c
-  sum-mul-right c zero f = simp (sum-zero, zero-mul)
-  sum-mul-right c (suc n) f = simp (sum-suc, sum-mul-right c n f, add-mul)
-
-  pub sum-swap : (n m : ℕ) (f : ℕ → ℕ → Car) → sum R n (λ i. sum R m (λ j. f i j)) ≡ sum R m (λ j. sum R n (λ i. f i j))
-  sum-swap zero m f = simp sum-zero (sym (sum-null m (λ i. 𝟘) (λ i l. refl)))
-  sum-swap (suc n) m f = simp (sum-suc, sum-swap n m f) (sym (sum-add m (λ j. sum R n (λ i. f i j)) (λ j. f n j)))
-
   pub sum-front : (n : ℕ) (f : ℕ → Car) → sum R (suc n) f ≡ f zero ⊕ sum R n (λ i. f (suc i))
   sum-front zero f = simp (sum-one, sum-zero, Sums)
   sum-front (suc n) f = rw (sum-suc R (suc n) f, sum-front n f, sum-suc R n (λ i. f (suc i))) (add-assoc L _ _ _)
@@ -82,12 +74,6 @@ module _ {R : Ring} (L : RingLaws R) where
   pub sum-split : (n m : ℕ) (f : ℕ → Car) → sum R (n + m) f ≡ sum R n f ⊕ sum R m (λ i. f (n + i))
   sum-split n zero f = simp (n-add-zero, sum-zero, add-zero)
   sum-split n (suc m) f = rw (add-suc n m, sum-suc R (n + m) f, sum-split n m f, sum-suc R m (λ i. f (n + i))) (add-assoc L _ _ _)
-
-  pub sum-reverse : (n : ℕ) (f : ℕ → Car) → sum R (suc n) (λ i. f (n - i)) ≡ sum R (suc n) f
-  sum-reverse zero f = simp sum-one
-  sum-reverse (suc n) f =
-      rw (sum-front (suc n) (λ i. f (suc n - i)), sum-suc R (suc n) f, ← sum-reverse n f)
-      (simp (suc-sub-suc, sub-zero) (add-comm L _ _))
 
   -- a sum with one term that may differ from zero
   pub sum-single : (n k : ℕ) (f : ℕ → Car) → k < n → ((i : ℕ) → i < n → i ≢ k → f i ≡ 𝟘) → sum R n f ≡ f k

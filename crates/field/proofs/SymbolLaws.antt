@@ -1,14 +1,14 @@
 -- The symbols of a listed p are a field, and `symbol` carries the code's arithmetic over to them.
 use mathlib.Core.Path.{_≡_, refl, sym, ap, subst, _∙_}
 use mathlib.Core.Logic.{_≢_, ⊎-elim}
-use mathlib.Core.Bool.{Bool, true, false}
+use mathlib.Core.Bool.{Bool, true}
 use mathlib.Core.HLevel.{hedberg}
-use Prim.Native.Nat.{ℕ, zero, suc, _+_, _-_, _*_, _/_, _%_, _<_}
-use native.Mathlib.Nat.{add-assoc, add-comm, add-zero, mul-comm, mul-assoc, mul-one, mul-add, add-mul, mod-lt, mod-eq-of-lt, mod-add-mod, add-mod-mod, mod-mod, mod-self, zero-mod, div-add-mod, mul-add-mod-self-left}
+use Prim.Native.Nat.{ℕ, _+_, _-_, _*_, _/_, _%_, _<_}
+use native.Mathlib.Nat.{add-assoc, add-comm, add-zero, mul-comm, mul-assoc, mul-one, mul-add, add-mul, mod-lt, mod-eq-of-lt, mod-add-mod, add-mod-mod, mod-self, zero-mod, div-add-mod, mul-add-mod-self-left}
 use native.Mathlib.Omega.{arith}
 use lib.Dec.{T, eqb, eqb→eq}
-use Rattle.field.specs.Ring.{Ring, RingLaws}
-use Rattle.field.specs.Field.{Field, FieldLaws}
+use Rattle.field.specs.Ring.{RingLaws}
+use Rattle.field.specs.Field.{FieldLaws}
 use Rattle.field.specs.Symbols.{or, listed, Listed, Element, symbol, same-byte, inverseNumber, sumOf, productOf, negativeOf, inverseOf, sameSymbol, symbols}
 use Rattle.field.proofs.FieldLaws.{cancel}
 use Rattle.field.proofs.Tests.{all, all-at, or-cases, or-right}
@@ -62,9 +62,6 @@ module _ (p : ℕ) where
 
   pub symbol-nonzero : {n : ℕ} → n < p → n ≢ 0 → symbol p n ≢ symbol p 0
   symbol-nonzero h z e = z (symbol-injective h (omega arith) e)
-
-  pub symbol-mod : (n : ℕ) → symbol p (n % p) ≡ symbol p n
-  symbol-mod n = symbol-same (n % p) n (mod-mod n p)
 
   ruleset mods = (byte-symbol, mod-add-mod, add-mod-mod, mod-mul, mul-mod)
 
@@ -163,6 +160,7 @@ module _ {p : ℕ} (l : Listed p) where
   one≢zero : symbol p 1 ≢ symbol p 0
   one≢zero = symbol-nonzero p (omega (arith, l .large)) (λ e. omega arith)
 
+  -- document 01: the inverse of 0 is 0
   pub inverse-zero : inverseOf p (symbol p 0) ≡ symbol p 0
   unfolding inverseOf symbol
   inverse-zero = at-listed (λ p. inverseOf p (symbol p 0) ≡ symbol p 0) refl refl refl refl refl refl refl refl refl refl p (l .listed)

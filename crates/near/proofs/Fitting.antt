@@ -1,7 +1,6 @@
 -- Which symbols fit. Below its least v the slices of T are zero, and there it is not, if T is not zero: so a root of the slice at v is
 -- a symbol that fits, as the document says it. A root's next symbol is one.
 use mathlib.Core.Path.{_≡_, refl, sym, ap, _∙_, fun-ext}
-use mathlib.Core.Logic.{_≢_}
 use mathlib.Core.Bool.{Bool, true, false}
 use Prim.Native.Nat.{ℕ, zero, suc, _+_, _-_, _*_, _≤_, _<_, zero-le}
 use native.Mathlib.Nat.{add-sub-cancel, mul-le-mul-right}
@@ -76,18 +75,6 @@ module _ (R : Ring) where
       go (yes l) d = absurd (b .some (λ j. c .none v j l))
       go (no l) (yes k) = absurd (c .some (λ j. b .none w j k))
       go (no l) (no k) = omega arith
-
-module _ {R : Ring} (L : RingLaws R) where
-  -- the same by T's symbols: nothing stands at T_j[e] where e + i j < v, and something where it is v
-  pub begins-at : {i v : ℕ} {T : Curve R} → ((j e : ℕ) → e + i * j < v → T j e ≡ R .𝟘) → (j e : ℕ) → e + i * j ≡ v → T j e ≢ R .𝟘 → Begins R i v T
-  begins-at {i} {v} {T} none j e at ne = record { none = λ d j l. go d j l (decLe (i * j) d); some = λ z. ne (ap (T j) back ∙ sym (slice-at L i v T j (omega arith)) ∙ z j) }
-    where
-      back : e ≡ v - i * j
-      back = omega arith
-
-      go : (d j : ℕ) → d < v → Dec (i * j ≤ d) → slice R i d T j ≡ R .𝟘
-      go d j l (yes k) = slice-at L i d T j k ∙ none j (d - i * j) (omega arith)
-      go d j l (no k) = slice-beyond L i d T j (omega arith)
 
 module _ {F : Field} (Φ : FieldLaws F) (N W : ℕ) where
   abbrev R : Ring

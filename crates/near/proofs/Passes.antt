@@ -1,5 +1,5 @@
 -- The curve of the search, in place. Choosing c at level i is a shift of y by c x^i; it is made by passes over the powers of y, each adding
--- to an entry the next one times c x^i, and the choice of -c undoes it. Height and weight stay.
+-- to an entry the next one times c x^i, and the choice of -c undoes it.
 use mathlib.Core.Path.{_≡_, refl, sym, ap, _∙_, fun-ext}
 use Prim.Native.Nat.{ℕ, zero, suc, _+_, _-_, _≤_, _<_}
 use native.Mathlib.Omega.{arith}
@@ -10,14 +10,12 @@ use Rattle.poly.specs.Polynomials.{Seq, tail, mulS, Series, consS, Below}
 use Rattle.poly.proofs.Series.{series, addS-at}
 use Rattle.poly.proofs.Constants.{xPlus, cons-eta}
 use Rattle.poly.proofs.Bounds.{below-zero, below-tail}
-use Rattle.poly.proofs.Shift.{shift, shift-zero, shift-at-zero, shift-at-suc, shift-back, below-shift}
-use Rattle.rows.specs.Curves.{Curve, Height, Under}
+use Rattle.poly.proofs.Shift.{shift, shift-zero, shift-at-zero, shift-at-suc, shift-back}
+use Rattle.rows.specs.Curves.{Curve, Height}
 use Rattle.rows.specs.Turns.{mono}
-use Rattle.rows.proofs.Crossing.{mono-below}
-use Rattle.rows.proofs.Heights.{height-below, below-height}
+use Rattle.rows.proofs.Heights.{height-below}
 use Rattle.near.specs.Search.{curveAt, chosen}
 use Rattle.near.proofs.Monomials.{mono-mul-at, mono-mul-low, mono-neg}
-use Rattle.near.proofs.Weights.{under-shift}
 
 module _ (R : Ring) where
   open Ring R using (Car, plus as _⊕_, times as _⊗_)
@@ -88,12 +86,6 @@ module _ {R : Ring} (L : RingLaws R) (N i : ℕ) (c : R .Car) (T : Curve R) wher
   infixl 65 _⊕_
   infixl 70 _⊗_
   infix 75 ⊖_
-  pub chosen-height : Height R N (chosen R N i c T)
-  chosen-height = rw (chosen-shift R N i c T) (below-height R (below-shift (series L) (mono R c i) N T))
-
-  pub chosen-under : (u W : ℕ) → i ≤ u → Under R u W 0 T → Under R u W 0 (chosen R N i c T)
-  chosen-under u W iu light = rw (chosen-shift R N i c T) (under-shift L u W N T (mono R c i) (λ e l. mono-below L c i e (omega arith)) light)
-
   pub chosen-passes : Height R N T → chosen R N i c T ≡ passes (Series R) (mono R c i) N T
   chosen-passes tall = chosen-shift R N i c T ∙ sym (passes-shift (series L) (mono R c i) N T (height-below R tall))
 

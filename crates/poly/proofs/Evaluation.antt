@@ -131,9 +131,6 @@ module _ (R S : Ring) (to : R .Car → S .Car) where
   abbrev pub eval : S .Car → ℕ → Seq R → S .Car
   eval s N f = value S s N (map f)
 
-pub value-eval : (R : Ring) (a : R .Car) (N : ℕ) (f : Seq R) → value R a N f ≡ eval R R (λ c. c) a N f
-value-eval R a N f = refl
-
 module _ {R S : Ring} {to : R .Car → S .Car} (φ : Hom R S to) where
   pub map-add : (f g : Seq R) → map R S to (addS R f g) ≡ addS S (map R S to f) (map R S to g)
   unfolding addS

@@ -173,10 +173,6 @@ module _ {R : Ring} (L : RingLaws R) where
       go (yes q) ih = rw q (factorAt-order (m n) K (suc (total n m) + N) (a n) f h (divides-right N (suc (total n m)) (factorsAt R n a m) (factorAt R (a n) (m n)) f (monic-factorsAt n a m .rest) e))
       go (no q) ih = ih (omega arith)
 
-  pub coprime-powers : (n N : ℕ) (a : ℕ → Car) (m K : ℕ → ℕ) (f : Seq R) → Apart R n a → Below R N f
-      → ((s : ℕ) → s < n → Divides R (K s) (factorAt R (a s) (m s)) f) → Divides R (N - total n m) (factorsAt R n a m) f
-  coprime-powers n N a m K f apart h d = factorsAt-divide n N a m f apart h (λ s l. factorAt-order (m s) N (K s) (a s) f h (d s l))
-
   -- a polynomial that vanishes, counted with multiplicity, as often as it may have coefficients, is zero
   pub orders-zero : (n N : ℕ) (a : ℕ → Car) (m : ℕ → ℕ) (f : Seq R) → Apart R n a → Below R N f → N ≤ total n m
       → ((s : ℕ) → s < n → Ord R (m s) (shift R (a s) N f)) → f ≡ zeroS R

@@ -2,12 +2,11 @@
 use mathlib.Core.Path.{_≡_, sym, ap, ap₂, _∙_}
 use mathlib.Core.List.{[], _∷_}
 use Prim.Native.Nat.{ℕ, zero, suc, _+_, _≤_}
-use native.Mathlib.Nat.{add-zero as n-add-zero}
 use native.Mathlib.Omega.{arith}
 use Rattle.field.specs.Ring.{Ring, RingLaws, pow, sum}
-use Rattle.field.proofs.RingLaws.{add-zero, mul-zero, one-mul, add-neg, neg-add-self}
+use Rattle.field.proofs.RingLaws.{one-mul, add-neg, neg-add-self}
 use Rattle.field.proofs.RingTactic.{ring, reading}
-use Rattle.poly.specs.Polynomials.{Seq, tail, zeroS, addS, mulS, Series, constS, xS, lin, Below, value}
+use Rattle.poly.specs.Polynomials.{Seq, tail, zeroS, addS, mulS, Series, constS, lin, Below, value}
 use Rattle.poly.proofs.Series.{series, zeroS-at, addS-at, mulS-zero, mulS-suc}
 use Rattle.poly.proofs.Constants.{xPlus, constS-zero, constS-suc, xPlus-zero, xPlus-tail, xPlus-none, xPlus-neg, xPlus-add, cons-tail}
 use Rattle.poly.proofs.Bounds.{below-zero, below-tail, below-mono, below-add, below-null, below-same, below-const, below-xPlus, below-mul-tight}
@@ -139,11 +138,3 @@ module _ {R : Ring} (L : RingLaws R) where
       → shift R c (m + K) g ≡ addS R (sum (Series R) m (λ j. mulS R (constS R (g j)) (pow (Series R) (xPlus R c) j))) (mulS R (pow (Series R) (xPlus R c) m) (shift R c K (drop R m g)))
   unfolding shift
   shift-split c m K g = value-split (series L) (xPlus R c) m K (map R (Series R) (constS R) g)
-
-  -- every sequence of at most K coefficients is the sum of its terms
-  pub terms : (K : ℕ) (g : Seq R) → Below R K g → g ≡ sum (Series R) K (λ j. mulS R (constS R (g j)) (pow (Series R) (xS R) j))
-  terms K g h =
-      sym (shift-none K g h)
-      ∙ ap (λ (n : ℕ). shift R 𝟘 n g) (sym (n-add-zero K))
-      ∙ shift-split 𝟘 K zero g
-      ∙ rw (shift-zero R 𝟘 (drop R K g), xPlus-none R, mul-zero (series L) (pow (Series R) (xS R) K)) (add-zero (series L) _)

@@ -1,6 +1,6 @@
 -- Leading terms: there is only one, and a bounded search finds it.
 -- The search goes through the terms from the largest that may stand in the curve down, so the first that is not zero leads.
-use mathlib.Core.Path.{_≡_, ap₂}
+use mathlib.Core.Path.{_≡_}
 use mathlib.Core.Logic.{_≢_, _⊎_, inl, inr}
 use Prim.Native.Nat.{ℕ, zero, suc, _+_, _-_, _*_, _≤_, _<_, zero-le}
 use native.Mathlib.Omega.{arith}
@@ -122,13 +122,6 @@ module _ (F : Field) (u : ℕ) (Q : Curve (F .ring)) where
       go : (j i : ℕ) → w ≤ i + u * j → (i + u * j ≤ w → h ≤ j) → Dec (w < i + u * j) → Q j i ≡ 𝟘
       go j i le f (yes q) = U j i q (λ _. zero-le)
       go j i le f (no q) = H j i (f (omega arith))
-
-  pub seek-lead : (h limit : ℕ) {w s : ℕ} → Height (F .ring) h Q → w < limit → Lead (F .ring) u w s Q → seek F u h Q limit ≡ found w s
-  seek-lead h limit {w} {s} H l p = go (seek F u h Q limit) (seek-right h limit H (under-mono (F .ring) u w (suc s) limit zero Q (omega arith) (λ q. absurd (omega arith)) (p .rest)))
-    where
-      go : (f : Sought) → Right F u Q f → f ≡ found w s
-      go none z = absurd (lead-nonzero p z)
-      go (found v t) q = let e = lead-unique q p in ap₂ found (e .0) (e .1)
 
   -- a leading term by computation
   pub lead-found : (h limit : ℕ) {w s : ℕ} → Height (F .ring) h Q → Under (F .ring) u limit zero Q → seek F u h Q limit ≡ found w s → Lead (F .ring) u w s Q

@@ -166,17 +166,3 @@ module _ {R : Ring} (L : RingLaws R) where
 
     pub each-span : {k : ℕ} {rows : ℕ → Curve R} {Q : Curve R} → ((i : ℕ) → i < k → PassingEach R n ms l a v (rows i)) → Span R k rows Q → PassingEach R n ms l a v Q
     each-span {k} {rows} h c = rw (c .is) (each-sum k (λ i. times R (c .factor i) (rows i)) (λ i q. each-times (c .finite i .0) (c .factor i) (c .finite i .1) (h i q)))
-
--- demand 2's curves
-module _ {R : Ring} (L : RingLaws R) {n m l : ℕ} {a v : ℕ → R .Car} where
-  pub passing-any : {Q : Curve R} → Passing R n m l a v Q → (fin : Finite R Q) (s : ℕ) → s < n → Multiplicity R m (fin .0) (suc l) (a s) (v s) Q
-  passing-any p = each-any L (passing-each p)
-
-  pub passing-zero : Passing R n m l a v (zeroS (Series R))
-  passing-zero = each-passing (each-zero L)
-
-  pub passing-add : {P Q : Curve R} → Passing R n m l a v P → Passing R n m l a v Q → Passing R n m l a v (addS (Series R) P Q)
-  passing-add p q = each-passing (each-add L (passing-each p) (passing-each q))
-
-  pub passing-times : {Q : Curve R} (D : ℕ) (q : Seq R) → Below R D q → Passing R n m l a v Q → Passing R n m l a v (times R q Q)
-  passing-times D q hq p = each-passing (each-times L D q hq (passing-each p))

@@ -1,4 +1,4 @@
--- What the contracts of read and write say of an outcome: there is only one, and its lengths are those a caller needs for a part of the array or of the buffer.
+-- What the contracts of read and write say of an outcome: there is only one, and what write has written is within the buffer.
 use mathlib.Core.Path.{_≡_, refl, ap}
 use mathlib.Core.Logic.{_⊎_, ⊎-elim}
 use mathlib.Core.List.{List}
@@ -6,7 +6,7 @@ use Prim.Native.Nat.{ℕ, _*_, _≤_, _<_}
 use native.Mathlib.Omega.{arith}
 use lib.ListN.{length, drop, length-append, length-drop}
 use Rattle.text.specs.declared.Request.{Request}
-use Rattle.text.specs.Requests.{most, stored, HasRead}
+use Rattle.text.specs.Requests.{stored, HasRead}
 use Rattle.text.specs.Requests.HasRead.{readable, unreadable}
 use Rattle.text.specs.Answers.{Outcome, answer, room, HasWritten}
 use Rattle.text.specs.Answers.HasWritten.{written, refused}
@@ -17,10 +17,6 @@ read-determined (readable r p) (readable s q) = ap stored (one-meaning p q)
 read-determined (readable r p) (unreadable n) = absurd (n r p)
 read-determined (unreadable n) (readable s q) = absurd (n s q)
 read-determined (unreadable n) (unreadable m) = refl
-
-pub read-counts : {text : List ℕ} {back : Request} → HasRead text back → (back .n ≤ most) × (back .count ≤ most)
-read-counts (readable r p) = let points = p .follows .follows .follows .follows .follows in (points .means .few, points .follows .means .few)
-read-counts (unreadable n) = (omega arith, omega arith)
 
 enough : (o : Outcome) (before : List ℕ) → room o ≤ length before → o .count * o .k ≤ length (o .messages)
     → (length before < room o) ⊎ (length (o .messages) < o .count * o .k) → ⊥
