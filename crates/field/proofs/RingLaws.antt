@@ -1,6 +1,8 @@
 -- The laws of a commutative ring that follow from `RingLaws`, and rules for `simp` that sort sums and multiply out.
-use mathlib.Core.Path.{_≡_, refl, sym, ap, ap₂, _∙_}
-use Rattle.field.specs.Ring.{Ring, RingLaws}
+use mathlib.Core.Path.{_≡_, sym, ap, ap₂, _∙_}
+use Prim.Native.Nat.{ℕ, zero, suc, _+_, _*_}
+use native.Mathlib.Nat.{suc-add, zero-add as n-zero-add, suc-mul, zero-mul as n-zero-mul}
+use Rattle.field.specs.Ring.{Ring, RingLaws, multiple}
 
 module _ {R : Ring} (L : RingLaws R) where
   open Ring R using (Car, 𝟘, 𝟙, plus as _⊕_, times as _⊗_, neg as ⊖_)
@@ -47,6 +49,9 @@ module _ {R : Ring} (L : RingLaws R) where
   pub neg-zero : ⊖ 𝟘 ≡ 𝟘
   neg-zero = sym (neg-unique 𝟘 𝟘 (add-zero 𝟘))
 
+  pub difference-zero : (a b : Car) → a ⊕ ⊖ b ≡ 𝟘 → a ≡ b
+  difference-zero a b p = neg-unique (⊖ b) a (add-comm (⊖ b) a ∙ p) ∙ neg-neg b
+
   pub neg-add : (a b : Car) → ⊖ (a ⊕ b) ≡ ⊖ a ⊕ ⊖ b
   neg-add a b = sym (neg-unique (a ⊕ b) (⊖ a ⊕ ⊖ b) (rw (add-assoc, add-left-comm b (⊖ a) (⊖ b), add-neg b, add-zero, add-neg)))
 
@@ -82,6 +87,23 @@ module _ {R : Ring} (L : RingLaws R) where
 
   pub neg-mul : (a b : Car) → ⊖ a ⊗ b ≡ ⊖ (a ⊗ b)
   neg-mul a b = mul-comm (⊖ a) b ∙ mul-neg b a ∙ ap (λ (x : Car). ⊖ x) (mul-comm b a)
+
+  -- sums of equal terms
+  pub multiple-one : (x : Car) → multiple R 1 x ≡ x
+  multiple-one x = add-zero x
+
+  pub multiple-add : (a b : ℕ) (x : Car) → multiple R (a + b) x ≡ multiple R a x ⊕ multiple R b x
+  multiple-add zero b x = rw (n-zero-add b) (sym (zero-add _))
+  multiple-add (suc a) b x = rw (suc-add a b) (ap (λ (y : Car). x ⊕ y) (multiple-add a b x) ∙ sym (add-assoc _ _ _))
+
+  pub multiple-scale : (b : ℕ) (x y : Car) → multiple R b (x ⊗ y) ≡ x ⊗ multiple R b y
+  multiple-scale zero x y = sym (mul-zero x)
+  multiple-scale (suc b) x y = ap (λ (z : Car). x ⊗ y ⊕ z) (multiple-scale b x y) ∙ sym (mul-add _ _ _)
+
+  pub multiple-mul : (a b : ℕ) (x y : Car) → multiple R (a * b) (x ⊗ y) ≡ multiple R a x ⊗ multiple R b y
+  multiple-mul zero b x y = rw (n-zero-mul b) (sym (zero-mul _))
+  multiple-mul (suc a) b x y =
+      rw (suc-mul a b) (multiple-add (a * b) b (x ⊗ y) ∙ ap₂ _⊕_ (multiple-mul a b x y) (multiple-scale b x y) ∙ add-comm _ _ ∙ sym (add-mul _ _ _))
 
   -- sorts a sum
   pub ruleset Sums = (add-assoc, add-comm, add-left-comm, add-zero, zero-add)

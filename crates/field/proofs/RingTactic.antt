@@ -5,11 +5,11 @@ use mathlib.Core.Path.{_≡_, refl, sym, ap, ap₂, _∙_}
 use mathlib.Core.Bool.{Bool, true, false}
 use mathlib.Core.List.{List, [], _∷_}
 use Prim.Native.Nat.{ℕ, zero, suc, _+_, _-_, _*_, compare, Ordering, Ordering·lt, Ordering·eq, Ordering·gt}
-use native.Mathlib.Nat.{suc-add, zero-add as n-zero-add, suc-mul, zero-mul as n-zero-mul, suc-sub-suc, zero-sub, sub-zero}
+use native.Mathlib.Nat.{suc-sub-suc, zero-sub, sub-zero}
 use lib.ListN.{getD}
 use lib.Dec.{leb, eqb, T, isEq, eqb→eq}
 use Rattle.field.specs.Ring.{Ring, RingLaws, pow, multiple}
-use Rattle.field.proofs.RingLaws.{add-assoc, add-comm, add-left-comm, add-zero, zero-add, neg-zero, neg-add, neg-neg, add-neg-left, mul-assoc, mul-left-comm, mul-one, one-mul, mul-add, add-mul, mul-zero, zero-mul, Expand}
+use Rattle.field.proofs.RingLaws.{add-assoc, add-left-comm, zero-add, neg-zero, neg-add, add-neg-left, mul-assoc, mul-left-comm, mul-one, one-mul, mul-add, add-mul, mul-zero, zero-mul, Expand, multiple-add, multiple-mul}
 
 infixl 65 _:+_
 infixl 70 _:*_
@@ -181,19 +181,6 @@ module _ {R : Ring} (L : RingLaws R) where
   infixl 65 _⊕_
   infixl 70 _⊗_
   infix 75 ⊖_
-  pub multiple-add : (a b : ℕ) (x : Car) → multiple R (a + b) x ≡ multiple R a x ⊕ multiple R b x
-  multiple-add zero b x = rw (n-zero-add b) (sym (zero-add L _))
-  multiple-add (suc a) b x = rw (suc-add a b) (ap (λ (y : Car). x ⊕ y) (multiple-add a b x) ∙ sym (add-assoc L _ _ _))
-
-  multiple-scale : (b : ℕ) (x y : Car) → multiple R b (x ⊗ y) ≡ x ⊗ multiple R b y
-  multiple-scale zero x y = sym (mul-zero L x)
-  multiple-scale (suc b) x y = ap (λ (z : Car). x ⊗ y ⊕ z) (multiple-scale b x y) ∙ sym (mul-add L _ _ _)
-
-  multiple-mul : (a b : ℕ) (x y : Car) → multiple R (a * b) (x ⊗ y) ≡ multiple R a x ⊗ multiple R b y
-  multiple-mul zero b x y = rw (n-zero-mul b) (sym (zero-mul L _))
-  multiple-mul (suc a) b x y =
-      rw (suc-mul a b) (multiple-add (a * b) b (x ⊗ y) ∙ ap₂ _⊕_ (multiple-mul a b x y) (multiple-scale b x y) ∙ add-comm L _ _ ∙ sym (add-mul L _ _ _))
-
   cancel : (x a b c d : Car) → a ⊕ ⊖ b ≡ c ⊕ ⊖ d → a ⊕ ⊖ b ≡ (x ⊕ c) ⊕ ⊖ (x ⊕ d)
   cancel x a b c d h = h ∙ sym (rw (neg-add L x d, add-assoc L x c (⊖ x ⊕ ⊖ d), add-left-comm L x c (⊖ x ⊕ ⊖ d), add-neg-left L x (⊖ d)))
 

@@ -5,8 +5,7 @@ use native.Mathlib.Decide.{decLt}
 use native.Mathlib.Nat.{suc-sub-suc, sub-zero}
 use native.Mathlib.Omega.{arith}
 use Rattle.field.specs.Ring.{Ring, RingLaws, pow, multiple, sum}
-use Rattle.field.proofs.RingLaws.{add-zero, zero-add, mul-zero, one-mul, mul-add, mul-assoc}
-use Rattle.field.proofs.RingTactic.{multiple-add}
+use Rattle.field.proofs.RingLaws.{zero-add, one-mul, mul-assoc, multiple-one, multiple-add, multiple-scale}
 use Rattle.field.proofs.Sums.{pow-zero, pow-suc, sum-zero, sum-front, sum-cong, sum-add, sum-mul}
 use Rattle.poly.specs.Polynomials.{Seq, tail, binomial}
 use Rattle.poly.proofs.Series.{zeroS-at}
@@ -38,20 +37,13 @@ module _ {R : Ring} (L : RingLaws R) where
   infixl 65 _⊕_
   infixl 70 _⊗_
   infix 75 ⊖_
-  multiple-one : (x : Car) → multiple R 1 x ≡ x
-  multiple-one x = add-zero L x
-
-  mul-multiple : (k : ℕ) (a x : Car) → a ⊗ multiple R k x ≡ multiple R k (a ⊗ x)
-  mul-multiple zero a x = mul-zero L a
-  mul-multiple (suc k) a x = mul-add L a x (multiple R k x) ∙ ap (λ (y : Car). a ⊗ x ⊕ y) (mul-multiple k a x)
-
   part-zero : (a : Car) (f : Seq R) (r : ℕ) → part R a 0 f (suc r) ≡ a ⊗ part R a 0 (tail R f) r
   part-zero a f r = rw (binomial-zero (suc r), binomial-zero r, multiple-one, multiple-one, sub-zero (suc r), sub-zero r, pow-suc R a r) (mul-assoc L a (pow R a r) (f (suc r)))
 
   part-suc : (a : Car) (i : ℕ) (f : Seq R) (r : ℕ) → part R a (suc i) f (suc r) ≡ part R a i (tail R f) r ⊕ a ⊗ part R a (suc i) (tail R f) r
   part-suc a i f r =
       rw (binomial-suc r i, suc-sub-suc r i, multiple-add L (binomial r i) (binomial r (suc i)) (pow R a (r - i) ⊗ f (suc r)))
-      (ap (λ (x : Car). part R a i (tail R f) r ⊕ x) (go (decLt i r) ∙ sym (mul-multiple (binomial r (suc i)) a (pow R a (r - suc i) ⊗ f (suc r)))))
+      (ap (λ (x : Car). part R a i (tail R f) r ⊕ x) (go (decLt i r) ∙ multiple-scale L (binomial r (suc i)) a (pow R a (r - suc i) ⊗ f (suc r))))
     where
       go : Dec (i < r) → multiple R (binomial r (suc i)) (pow R a (r - i) ⊗ f (suc r)) ≡ multiple R (binomial r (suc i)) (a ⊗ (pow R a (r - suc i) ⊗ f (suc r)))
       go (yes l) =

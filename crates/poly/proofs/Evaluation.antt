@@ -6,7 +6,7 @@ use Prim.Native.Nat.{ℕ, zero, suc, _+_, _≤_}
 use native.Mathlib.Nat.{suc-add, zero-add as n-zero-add}
 use native.Mathlib.Omega.{arith}
 use Rattle.field.specs.Ring.{Ring, RingLaws, pow, sum}
-use Rattle.field.proofs.RingLaws.{add-zero, zero-add, mul-zero, zero-mul, neg-unique, add-neg}
+use Rattle.field.proofs.RingLaws.{add-zero, zero-add, mul-zero, zero-mul, neg-unique, add-neg, mul-left-comm}
 use Rattle.field.proofs.RingTactic.{ring, reading}
 use Rattle.field.proofs.Sums.{pow-zero, pow-suc, sum-zero, sum-front, sum-cong, sum-mul}
 use Rattle.poly.specs.Polynomials.{Seq, tail, zeroS, oneS, addS, negS, scaleS, mulS, Series, consS, constS, Below, value}
@@ -108,12 +108,9 @@ module _ {R : Ring} (L : RingLaws R) (a : R .Car) where
       finish : (c p z e : Car) → c ⊕ a ⊗ (z ⊕ p ⊗ e) ≡ c ⊗ 𝟙 ⊕ a ⊗ z ⊕ a ⊗ p ⊗ e
       finish c p z e = ring L (c ∷ a ∷ p ∷ z ∷ e ∷ []) (search reading depth 25) tt
 
-      turn : (x y z : Car) → x ⊗ (y ⊗ z) ≡ y ⊗ (x ⊗ z)
-      turn x y z = ring L (x ∷ y ∷ z ∷ []) (search reading depth 25) tt
-
       inner : sum R m (λ i. g (suc i) ⊗ pow R a (suc i)) ≡ a ⊗ sum R m (λ j. g (suc j) ⊗ pow R a j)
       inner =
-          sum-cong L m (λ i. g (suc i) ⊗ pow R a (suc i)) (λ i. a ⊗ (g (suc i) ⊗ pow R a i)) (λ i l. rw (pow-suc R a i) (turn (g (suc i)) a (pow R a i)))
+          sum-cong L m (λ i. g (suc i) ⊗ pow R a (suc i)) (λ i. a ⊗ (g (suc i) ⊗ pow R a i)) (λ i l. rw (pow-suc R a i) (mul-left-comm L (g (suc i)) a (pow R a i)))
           ∙ sum-mul L a m (λ j. g (suc j) ⊗ pow R a j)
 
 -- `to` respects the operations

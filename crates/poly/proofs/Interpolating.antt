@@ -17,6 +17,7 @@ use Rattle.field.specs.Kernels.{Subtracts, subtracted}
 use Rattle.field.proofs.RingLaws.{mul-comm}
 use Rattle.field.proofs.Sums.{prod-zero, prod-suc}
 use Rattle.field.proofs.SymbolLaws.{symbol-byte, symbol-own, symbol-injective, byte-below, symbols-field}
+use Rattle.field.proofs.FieldLaws.{divided}
 use Rattle.field.proofs.OperationLaws.{symbol-minusBytes, symbol-timesBytes, symbol-invByte, symbol-negByte, timesBytes-below, negByte-below}
 use Rattle.field.proofs.KernelLaws.{length-subtracted, subtracted-outside, subtracted-below, subtracted-symbol}
 use Rattle.poly.specs.Polynomials.{Seq, Series, zeroS, oneS, consS, negS, scaleS, value, lin, Distinct, locator, Through}
@@ -26,7 +27,7 @@ use Rattle.poly.proofs.Series.{zeroS-at, addS-at, negS-at, scaleS-at, s
 use Rattle.poly.proofs.Evaluation.{value-more}
 use Rattle.poly.proofs.Degrees.{monic-locator}
 use Rattle.poly.proofs.Places.{distinct-apart}
-use Rattle.poly.proofs.Interpolation.{interpolant-unique, divided, locator-nonzero, next, through-next}
+use Rattle.poly.proofs.Interpolation.{interpolant-unique, locator-nonzero, next, through-next}
 use Rattle.poly.proofs.BufferLaws.{zero-byte, symbols-are}
 use Rattle.poly.proofs.Products.{product-low}
 

@@ -7,15 +7,15 @@ use native.Mathlib.Decide.{ℕ-discrete}
 use native.Mathlib.Omega.{arith}
 use Rattle.field.specs.Ring.{Ring, RingLaws, prod}
 use Rattle.field.specs.Field.{Field, FieldLaws}
-use Rattle.field.proofs.RingLaws.{add-neg, mul-assoc, mul-comm, mul-one, mul-zero, zero-mul}
+use Rattle.field.proofs.RingLaws.{add-neg, mul-zero, zero-mul, difference-zero}
 use Rattle.field.proofs.RingTactic.{ring, reading}
 use Rattle.field.proofs.Sums.{prod-zero, prod-suc}
+use Rattle.field.proofs.FieldLaws.{divided}
 use Rattle.poly.specs.Polynomials.{Seq, zeroS, addS, negS, scaleS, Series, lin, value, Distinct, locator, Through}
 use Rattle.poly.proofs.Series.{series, zeroS-at}
 use Rattle.poly.proofs.Constants.{xPlus-neg}
 use Rattle.poly.proofs.Bounds.{below-null, below-add, below-neg, below-scale, below-lin}
 use Rattle.poly.proofs.Evaluation.{value-add, value-neg, value-scale, value-more, value-mul, value-one, value-xPlus}
-use Rattle.poly.proofs.Orders.{difference-zero}
 use Rattle.poly.proofs.Degrees.{monic-locator}
 use Rattle.poly.proofs.Places.{Apart, distinct-apart, roots-zero}
 
@@ -53,9 +53,6 @@ module _ {F : Field} (Φ : FieldLaws F) where
   infixl 65 _⊕_
   infixl 70 _⊗_
   infix 75 ⊖_
-  pub divided : (d e : Car) → e ≢ 𝟘 → d ⊗ F .inv e ⊗ e ≡ d
-  divided d e n = mul-assoc L d (F .inv e) e ∙ rw (mul-comm L (F .inv e) e, Φ .inverse e n) (mul-one L d)
-
   -- the locator is zero at its own points and at no other
   locator-root : (n s : ℕ) (a : ℕ → Car) → s < n → value R (a s) (suc n) (locator R n a) ≡ 𝟘
   locator-root zero s a l = absurd (omega arith)
@@ -114,4 +111,4 @@ module _ {F : Field} (Φ : FieldLaws F) where
       let r = interpolate n a v (λ i j p q. inj i j (omega arith) (omega arith)) in
       let E = value R (a n) (suc n) (locator R n a) in
       let D = value R (a n) n (r .0) ⊕ ⊖ (v n) in
-      (next n a v (r .0) (D ⊗ F .inv E), through-next n a v (r .0) (D ⊗ F .inv E) (r .1) (divided D E (locator-nonzero n a inj)))
+      (next n a v (r .0) (D ⊗ F .inv E), through-next n a v (r .0) (D ⊗ F .inv E) (r .1) (divided Φ D E (locator-nonzero n a inj)))

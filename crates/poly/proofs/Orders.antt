@@ -2,14 +2,12 @@
 -- cancelled: so a polynomial over a field divides zero only if it is zero.
 use mathlib.Core.Path.{_≡_, sym, ap, _∙_, fun-ext}
 use mathlib.Core.Logic.{_≢_, _⊎_, inl, inr}
-use mathlib.Core.List.{[], _∷_}
 use Prim.Native.Nat.{ℕ, zero, suc, _+_, _-_, _<_}
 use native.Mathlib.Decide.{decLt, ℕ-discrete}
 use native.Mathlib.Omega.{arith}
 use Rattle.field.specs.Ring.{Ring, RingLaws}
 use Rattle.field.specs.Field.{Field, FieldLaws}
-use Rattle.field.proofs.RingLaws.{add-zero, zero-add, add-neg, neg-zero, zero-mul, mul-zero, one-mul}
-use Rattle.field.proofs.RingTactic.{ring, reading}
+use Rattle.field.proofs.RingLaws.{add-zero, add-neg, neg-zero, zero-mul, mul-zero, one-mul}
 use Rattle.field.proofs.Sums.{sum-null}
 use Rattle.field.proofs.FieldLaws.{no-zero-divisor}
 use Rattle.poly.specs.Polynomials.{Seq, tail, zeroS, addS, negS, mulS, Series, consS, constS, Below}
@@ -81,11 +79,6 @@ module _ {R : Ring} (L : RingLaws R) where
 
   pub regular-one : Regular R 𝟙
   regular-one x e = sym (one-mul L x) ∙ e
-
-  pub difference-zero : (a b : Car) → a ⊕ ⊖ b ≡ 𝟘 → a ≡ b
-  difference-zero a b h =
-      let e : a ⊕ ⊖ b ⊕ b ≡ a = ring L (a ∷ b ∷ []) (search reading depth 25) tt in
-      sym e ∙ rw h (zero-add L b)
 
 module _ {F : Field} (Φ : FieldLaws F) where
   abbrev R : Ring

@@ -9,7 +9,7 @@ use native.Mathlib.Nat.{sub-zero, suc-sub-suc}
 use native.Mathlib.Omega.{arith}
 use Rattle.field.specs.Ring.{Ring, RingLaws, pow, prod}
 use Rattle.field.specs.Field.{Field, FieldLaws}
-use Rattle.field.proofs.RingLaws.{mul-zero, one-mul, mul-assoc, add-neg}
+use Rattle.field.proofs.RingLaws.{mul-zero, one-mul, mul-assoc, add-neg, difference-zero}
 use Rattle.field.proofs.RingTactic.{ring}
 use Rattle.field.proofs.Sums.{pow-zero, pow-suc, prod-zero, prod-suc}
 use Rattle.field.proofs.FieldLaws.{no-zero-divisor}
@@ -19,7 +19,7 @@ use Rattle.poly.proofs.Constants.{xPlus, xPlus-zero}
 use Rattle.poly.proofs.Bounds.{below-zero, below-null, below-same, below-lin, below-add, below-neg, below-mul, below-mul-tight}
 use Rattle.poly.proofs.Division.{quot, below-quot, divide-root}
 use Rattle.poly.proofs.Shift.{shift, shift-null, shift-mul, shift-more, shift-any, shift-value, shift-lin}
-use Rattle.poly.proofs.Orders.{Ord, ord-mul, Regular, ord-cancel, regular-one, difference-zero, no-zero-divisors}
+use Rattle.poly.proofs.Orders.{Ord, ord-mul, Regular, ord-cancel, regular-one, no-zero-divisors}
 use Rattle.poly.proofs.Degrees.{total, total-zero, total-suc, total-ones, Monic, monic-same, monic-lin, monic-pow, monic-prod}
 
 module _ (R : Ring) where

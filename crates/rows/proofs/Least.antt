@@ -7,9 +7,8 @@ use native.Mathlib.Omega.{arith}
 use native.Mathlib.Decide.{decLe, decLt}
 use Rattle.field.specs.Ring.{Ring, RingLaws}
 use Rattle.field.specs.Field.{Field, FieldLaws}
-use Rattle.field.proofs.RingLaws.{add-neg, mul-zero, mul-comm}
+use Rattle.field.proofs.RingLaws.{add-neg, mul-zero, mul-comm, difference-zero}
 use Rattle.poly.specs.Polynomials.{Series, addS, negS}
-use Rattle.poly.proofs.Orders.{difference-zero}
 use Rattle.rows.specs.Curves.{AtMost, Curve, Under, Lead, LeadsAt, Span, Smallest}
 use Rattle.rows.specs.Turns.{mono, Outcome}
 use Rattle.rows.specs.Entry.{Sound}
