@@ -57,13 +57,27 @@ module _ (p : ℕ) where
   pub symbol-same : (m n : ℕ) → m % p ≡ n % p → symbol p m ≡ symbol p n
   symbol-same m n e = same-byte p (byte-symbol m ∙ e ∙ sym (byte-symbol n))
 
+  -- a number below p is the byte of its symbol
+  pub byte-is : {n : ℕ} (a : Element p) → n < p → symbol p n ≡ a → n ≡ a .byte
+  byte-is a h e = sym (symbol-own h) ∙ ap (λ (x : Element p). x .byte) e
+
   pub symbol-injective : {m n : ℕ} → m < p → n < p → symbol p m ≡ symbol p n → m ≡ n
-  symbol-injective h k e = sym (symbol-own h) ∙ ap (λ (x : Element p). x .byte) e ∙ symbol-own k
+  symbol-injective {n = n} h k e = byte-is (symbol p n) h e ∙ symbol-own k
 
   pub symbol-nonzero : {n : ℕ} → n < p → n ≢ 0 → symbol p n ≢ symbol p 0
   symbol-nonzero h z e = z (symbol-injective h (omega arith) e)
 
   ruleset mods = (byte-symbol, mod-add-mod, add-mod-mod, mod-mul, mul-mod)
+
+  -- a symbol is zero exactly where its byte is
+  pub zero-byte : symbol p 0 .byte ≡ 0
+  zero-byte = byte-symbol 0 ∙ zero-mod p
+
+  pub byte-zero : {a : Element p} → a ≡ symbol p 0 → a .byte ≡ 0
+  byte-zero e = ap (λ (x : Element p). x .byte) e ∙ zero-byte
+
+  pub zero-is : {a : Element p} → a .byte ≡ 0 → a ≡ symbol p 0
+  zero-is e = same-byte p (e ∙ sym zero-byte)
 
   pub symbol-plus : (a b : ℕ) → symbol p (a + b) ≡ sumOf p (symbol p a) (symbol p b)
   unfolding sumOf
@@ -145,7 +159,7 @@ module _ {p : ℕ} (l : Listed p) where
   byte-below = byte-less p some
 
   pub byte-nonzero : (a : Element p) → a ≢ symbol p 0 → a .byte ≢ 0
-  byte-nonzero a n e = n (same-byte p (e ∙ sym (byte-symbol p 0 ∙ zero-mod p)))
+  byte-nonzero a n e = n (zero-is p e)
 
   product-inverse : (a : Element p) → a ≢ symbol p 0 → productOf p a (inverseOf p a) ≡ symbol p 1
   unfolding productOf inverseOf

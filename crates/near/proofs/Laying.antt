@@ -7,10 +7,9 @@ use native.Mathlib.Nat.{mul-le-mul}
 use native.Mathlib.Decide.{decLe}
 use native.Mathlib.Omega.{arith}
 use lib.ListN.{length, getD}
-use Rattle.field.specs.Ring.{Ring, RingLaws}
-use Rattle.field.specs.Symbols.{Listed, Element, symbol, symbols}
-use Rattle.field.proofs.SymbolLaws.{symbol-byte, symbol-own, byte-below, symbols-field}
-use Rattle.poly.proofs.BufferLaws.{zero-byte}
+use Rattle.field.specs.Ring.{RingLaws}
+use Rattle.field.specs.Symbols.{symbol, symbols}
+use Rattle.field.proofs.SymbolLaws.{symbol-byte, symbol-own, byte-below, symbols-field, zero-byte}
 use Rattle.rows.specs.Curves.{Curve, Height, Under}
 use Rattle.rows.specs.Bytes.{slot, curveBytes, HoldsCurve}
 use Rattle.rows.specs.Work.{Fine}

@@ -8,9 +8,9 @@ use lib.ListN.{length, getD, List·getD-append, List·getD-eq-default}
 use lib.Seq.{ext-getD, getD-append-add}
 use Rattle.field.specs.Ring.{Ring, RingLaws}
 use Rattle.field.specs.Field.{Field, FieldLaws}
-use Rattle.field.specs.Symbols.{Listed, Element, symbol, symbols}
+use Rattle.field.specs.Symbols.{Listed, symbol, symbols}
 use Rattle.field.proofs.RingLaws.{add-zero, zero-add, one-mul}
-use Rattle.field.proofs.SymbolLaws.{symbol-byte, symbol-own}
+use Rattle.field.proofs.SymbolLaws.{symbol-byte, symbol-injective}
 use Rattle.poly.specs.Polynomials.{Seq, tail, Series, constS, Below}
 use Rattle.poly.proofs.Series.{addS-at}
 use Rattle.poly.proofs.Constants.{constS-zero, constS-suc}
@@ -35,7 +35,7 @@ symbols-numbered {p} h =
     record {
       zero = refl;
       all = λ e. (e .byte, rw (sym (e .own)) (mod-lt (e .byte) (omega arith)), symbol-byte p e);
-      once = λ b c l k e. sym (symbol-own p l) ∙ ap (λ (s : Element p). s .byte) e ∙ symbol-own p k;
+      once = λ b c. symbol-injective p;
     }
 
 module _ {F : Field} (job : Task F) (num : Numbering F (job .p) (job .element)) where

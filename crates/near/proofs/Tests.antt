@@ -1,6 +1,6 @@
 -- What the loops of a test for fitting symbols compute: whether a coefficient is not zero, the least power that passes, and a value by
 -- Horner's rule.
-use mathlib.Core.Path.{_≡_, refl, sym, ap, _∙_, fun-ext}
+use mathlib.Core.Path.{_≡_, refl, ap, _∙_, fun-ext}
 use mathlib.Core.Logic.{_≢_}
 use mathlib.Core.Bool.{Bool, true, false}
 use Prim.Native.Nat.{ℕ, zero, suc, _+_, _-_, _≤_, _<_}
@@ -8,22 +8,14 @@ use native.Mathlib.Nat.{zero-add, add-zero}
 use native.Mathlib.Decide.{ℕ-discrete}
 use native.Mathlib.Omega.{arith}
 use Rattle.field.specs.Field.{Field}
-use Rattle.field.specs.Symbols.{Element, symbol, same-byte, symbols}
+use Rattle.field.specs.Symbols.{Element, symbol, symbols}
 use Rattle.field.specs.Operations.{plusBytes, timesBytes}
 use Rattle.field.proofs.SymbolLaws.{symbol-byte}
 use Rattle.field.proofs.OperationLaws.{symbol-timesBytes}
 use Rattle.poly.specs.Polynomials.{Seq, tail, value}
-use Rattle.poly.proofs.BufferLaws.{zero-byte}
 use Rattle.rows.specs.Turns.{choose}
 use Rattle.rows.proofs.Put.{choose-yes}
 use Rattle.near.specs.Search.{least, some?}
-
--- a symbol is zero exactly where its byte is
-pub byte-zero : (p : ℕ) {a : Element p} → a ≡ symbol p 0 → a .byte ≡ 0
-byte-zero p e = ap (λ (x : Element p). x .byte) e ∙ zero-byte p
-
-pub zero-is : (p : ℕ) {a : Element p} → a .byte ≡ 0 → a ≡ symbol p 0
-zero-is p e = same-byte p (e ∙ sym (zero-byte p))
 
 module _ (F : Field) where
   pub some-none : (N : ℕ) (f : Seq (F .ring)) → ((j : ℕ) → j < N → f j ≡ F .ring .𝟘) → some? F N f ≡ false

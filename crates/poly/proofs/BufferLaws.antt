@@ -2,21 +2,18 @@
 use mathlib.Core.Path.{_≡_, sym, ap, _∙_, fun-ext}
 use mathlib.Core.List.{List}
 use Prim.Native.Nat.{ℕ, suc, _+_, _-_, _≤_, _<_}
-use native.Mathlib.Nat.{zero-add, add-zero, zero-mod}
+use native.Mathlib.Nat.{zero-add, add-zero}
 use native.Mathlib.Decide.{decLt}
 use native.Mathlib.Omega.{arith}
 use lib.ListN.{length, getD, take, drop, length-take, length-drop, List·getD-eq-default}
 use lib.Seq.{take-all, getD-take, getD-drop}
 use Rattle.field.specs.Symbols.{Element, symbol, symbols}
 use Rattle.field.specs.Operations.{plusBytes, timesBytes}
-use Rattle.field.proofs.SymbolLaws.{symbol-byte, byte-symbol}
+use Rattle.field.proofs.SymbolLaws.{symbol-byte, zero-byte}
 use Rattle.field.proofs.OperationLaws.{symbol-timesBytes}
 use Rattle.poly.specs.Polynomials.{Seq, tail, Below, value}
 use Rattle.poly.specs.Encode.{symbolsOf, valueAt}
 use Rattle.poly.specs.Buffers.{AllBelow, from}
-
-pub zero-byte : (p : ℕ) → symbol p 0 .byte ≡ 0
-zero-byte p = byte-symbol p 0 ∙ zero-mod p
 
 module _ (p : ℕ) (xs : List ℕ) where
   -- the bytes of xs are the coefficients of f

@@ -16,7 +16,7 @@ use Rattle.field.specs.Operations.{negByte}
 use Rattle.field.specs.Kernels.{Subtracts, subtracted}
 use Rattle.field.proofs.RingLaws.{mul-comm}
 use Rattle.field.proofs.Sums.{prod-zero, prod-suc}
-use Rattle.field.proofs.SymbolLaws.{symbol-byte, symbol-own, symbol-injective, byte-below, symbols-field}
+use Rattle.field.proofs.SymbolLaws.{symbol-byte, symbol-own, symbol-injective, byte-below, symbols-field, byte-is, zero-byte}
 use Rattle.field.proofs.FieldLaws.{divided}
 use Rattle.field.proofs.OperationLaws.{symbol-minusBytes, symbol-timesBytes, symbol-invByte, symbol-negByte, timesBytes-below, negByte-below}
 use Rattle.field.proofs.KernelLaws.{length-subtracted, subtracted-outside, subtracted-below, subtracted-symbol}
@@ -28,7 +28,7 @@ use Rattle.poly.proofs.Evaluation.{value-more}
 use Rattle.poly.proofs.Degrees.{monic-locator}
 use Rattle.poly.proofs.Places.{distinct-apart}
 use Rattle.poly.proofs.Interpolation.{interpolant-unique, locator-nonzero, next, through-next}
-use Rattle.poly.proofs.BufferLaws.{zero-byte, symbols-are}
+use Rattle.poly.proofs.BufferLaws.{symbols-are}
 use Rattle.poly.proofs.Products.{product-low}
 
 -- the points of places are different symbols
@@ -178,7 +178,7 @@ module _ {p : ℕ} {points word work : List ℕ} {s : ℕ} (P : Places p points 
         let is : symbol p (getD mended (0 + i) 0) ≡ h' i =
         subtracted-symbol p (excessOf p a b work) 0 32 work 32 i room g
         ∙ rw (zero-add i, t .low i g, t .high i g, symbol-byte p (t .h i), symbol-byte p (e i), addS-at R (t .h) (negS R (scaleS R C e)) i, negS-at R (scaleS R C e) i, scaleS-at R C e i) in
-        ap (λ (n : ℕ). getD mended n 0) (sym (zero-add i)) ∙ sym (symbol-own p (subtracted-below p (excessOf p a b work) 0 32 work 32 i room g (P .size))) ∙ ap (λ (x : Element p). x .byte) is
+        ap (λ (n : ℕ). getD mended n 0) (sym (zero-add i)) ∙ byte-is p (h' i) (subtracted-below p (excessOf p a b work) 0 32 work 32 i room g (P .size)) is
 
     mended-high : (i : ℕ) → i < 32 → from p mended 32 i ≡ e i
     mended-high i g = rw (subtracted-outside p (excessOf p a b work) 0 32 work 32 (32 + i) (inr (omega arith)), t .high i g) (symbol-byte p (e i))

@@ -10,11 +10,10 @@ use native.Mathlib.Omega.{arith}
 use lib.ListN.{length, getD, take, drop, length-take, length-drop}
 use lib.Seq.{getD-take, getD-drop, take-all}
 use Rattle.field.specs.Symbols.{Listed, symbols}
-use Rattle.field.proofs.SymbolLaws.{symbols-field}
+use Rattle.field.proofs.SymbolLaws.{symbols-field, zero-byte}
 use Rattle.poly.specs.Polynomials.{Series, zeroS, consS}
 use Rattle.poly.specs.Encode.{symbolsOf}
 use Rattle.poly.specs.Buffers.{AllBelow, Kept}
-use Rattle.poly.proofs.BufferLaws.{zero-byte}
 use Rattle.rows.specs.Curves.{Curve}
 use Rattle.rows.specs.Start.{startRow}
 use Rattle.rows.specs.Bytes.{slot, curveBytes, rowsBytes, place, Holds, Untouched}

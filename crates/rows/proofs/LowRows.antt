@@ -12,13 +12,12 @@ use lib.Seq.{getD-set-same, getD-set-other}
 use Rattle.field.specs.Ring.{Ring, RingLaws, pow}
 use Rattle.field.specs.Symbols.{Element, symbols}
 use Rattle.field.proofs.RingLaws.{mul-one}
-use Rattle.field.proofs.SymbolLaws.{symbols-field, symbol-byte, byte-below}
+use Rattle.field.proofs.SymbolLaws.{symbols-field, symbol-byte, byte-below, zero-byte}
 use Rattle.poly.specs.Polynomials.{Seq, Series, oneS, mulS, lin}
 use Rattle.poly.specs.Encode.{symbolsOf}
 use Rattle.poly.specs.Buffers.{from, Factors, Kept}
 use Rattle.poly.proofs.Series.{series}
 use Rattle.poly.proofs.Constants.{constS-zero}
-use Rattle.poly.proofs.BufferLaws.{zero-byte}
 use Rattle.poly.proofs.Products.{product-low}
 use Rattle.rows.specs.Bytes.{slot, curveBytes, place}
 use Rattle.rows.specs.Filling.{Power, slotsAt, Raised, HoldsRow, FillsLow, FilledLow}

@@ -17,8 +17,7 @@ use lib.Dec.{leb}
 use lib.ListN.{length, getD}
 use borrow.Author.Tests.{le-leb, lt-leb}
 use Rattle.field.specs.Symbols.{symbol, symbols}
-use Rattle.field.proofs.SymbolLaws.{symbol-own, byte-below}
-use Rattle.poly.proofs.BufferLaws.{zero-byte}
+use Rattle.field.proofs.SymbolLaws.{symbol-own, byte-below, zero-byte}
 use Rattle.rows.specs.Curves.{Curve, Under}
 use Rattle.rows.specs.Bytes.{slot, curveBytes, rowsBytes, place, within, rowsOf, Holds}
 use Rattle.rows.specs.Work.{Fine, Bytes, LightRow}

@@ -1,5 +1,5 @@
 -- Runs of bytes: cleared, copied, and regions with their parts.
-use mathlib.Core.Path.{_≡_, refl, sym, ap, _∙_}
+use mathlib.Core.Path.{_≡_, refl, _∙_}
 use mathlib.Core.Logic.{_⊎_, inl, inr, ⊎-elim}
 use mathlib.Core.List.{List}
 use Prim.Native.Nat.{ℕ, _+_, _≤_, _<_}
@@ -9,10 +9,10 @@ use native.Mathlib.Omega.{arith}
 use lib.ListN.{length, getD, set}
 use lib.Seq.{length-sets}
 use Rattle.field.specs.Lists.{tabulate}
-use Rattle.field.specs.Symbols.{Listed, Element, symbol, symbols}
+use Rattle.field.specs.Symbols.{Listed, symbols}
 use Rattle.field.specs.Kernels.{Region}
 use Rattle.field.proofs.Lists.{sets-tabulate-zero, sets-tabulate-suc, sets-tabulate-inside, sets-tabulate-outside}
-use Rattle.field.proofs.SymbolLaws.{symbol-own, byte-below}
+use Rattle.field.proofs.SymbolLaws.{byte-below}
 use Rattle.poly.specs.Polynomials.{Seq}
 use Rattle.poly.specs.Buffers.{Factors, Kept}
 use Rattle.rows.specs.Filling.{cleared, copied, Copies}
@@ -88,6 +88,3 @@ factors-part by h a = record { size = a .size; factor = a .factor; region = regi
 pub region-symbols : {p at len : ℕ} {xs ys : List ℕ} (f : Seq (symbols p .ring)) → Listed p → Region p at len xs → Kept at len xs ys
     → ((i : ℕ) → i < len → getD ys (at + i) 0 ≡ f i .byte) → Region p at len ys
 region-symbols f l r k is = record { within = rw (k .long) (r .within); below = λ i h. rw (is i h) (byte-below l (f i)) }
-
-pub byte-is : {p n : ℕ} (a : Element p) → n < p → symbol p n ≡ a → n ≡ a .byte
-byte-is {p} a h e = sym (symbol-own p h) ∙ ap (λ (x : Element p). x .byte) e

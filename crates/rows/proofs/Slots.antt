@@ -14,7 +14,7 @@ use Rattle.field.specs.Operations.{negByte}
 use Rattle.field.specs.Kernels.{Region, Subtracts, Scales, subtracted, scaled}
 use Rattle.field.proofs.RingLaws.{mul-assoc, one-mul, neg-mul, neg-neg}
 use Rattle.field.proofs.Sums.{pow-zero, pow-suc}
-use Rattle.field.proofs.SymbolLaws.{symbols-field, symbol-byte}
+use Rattle.field.proofs.SymbolLaws.{symbols-field, symbol-byte, byte-is}
 use Rattle.field.proofs.OperationLaws.{symbol-negByte, negByte-below}
 use Rattle.field.proofs.KernelLaws.{length-subtracted, subtracted-outside, subtracted-below, subtracted-symbol, length-scaled, scaled-outside, scaled-below, scaled-symbol}
 use Rattle.poly.specs.Polynomials.{Seq, Series, mulS}
@@ -25,7 +25,7 @@ use Rattle.poly.proofs.Products.{product-low}
 use Rattle.rows.specs.Filling.{Power, slotsAt, raised, RaisedSlot, Raised}
 use Rattle.rows.proofs.Filling.{raised-zero, raised-suc, raised-low}
 use Rattle.rows.proofs.Places.{block-end}
-use Rattle.rows.proofs.Regions.{kept-none, kept-then, kept-wider, region-symbols, byte-is}
+use Rattle.rows.proofs.Regions.{kept-none, kept-then, kept-wider, region-symbols}
 
 -- the x-polynomial in a region times -f
 pub record Negated (p : ℕ) (f : List ℕ) (at len : ℕ) (before after : List ℕ) : Type 0 where
@@ -48,7 +48,7 @@ module _ {p : ℕ} (l : Listed p) where
     power-none =
         record {
           kept = kept-none at len xs;
-          power = λ e h. byte-is (power 0 e) (a .region .below e h) (rw (pow-zero (Series R) (symbolsOf p f), one-mul (series L) (from p xs at)));
+          power = λ e h. byte-is p (power 0 e) (a .region .below e h) (rw (pow-zero (Series R) (symbolsOf p f), one-mul (series L) (from p xs at)));
         }
 
     module _ {i : ℕ} {ys : List ℕ} (b : Power p f i at len xs ys) where
@@ -82,7 +82,7 @@ module _ {p : ℕ} (l : Listed p) where
           record {
             kept = kept-then (b .kept) (record { long = length-scaled p c at ys len; same = scaled-outside p c at ys len });
             is = λ i h.
-                byte-is (negativeOf p (productFrom p f xs at i)) (scaled-below p c at ys len i w h l)
+                byte-is p (negativeOf p (productFrom p f xs at i)) (scaled-below p c at ys len i w h l)
                 (scaled-symbol p c at ys len i w h ∙ rw (b .product i h, symbol-byte) (opposite (productFrom p f xs at i)));
           }
 
@@ -111,7 +111,7 @@ module _ {p : ℕ} (l : Listed p) where
           rw e
           record {
             kept = kept-then (n .kept) (record { long = length-subtracted p c at from zs slot; same = subtracted-outside p c at from zs slot });
-            is = λ i k. byte-is (raised p h base slot xs j i) (subtracted-below p c at from zs slot i w k l) (subtracted-symbol p c at from zs slot i w k ∙ value i k);
+            is = λ i k. byte-is p (raised p h base slot xs j i) (subtracted-below p c at from zs slot i w k l) (subtracted-symbol p c at from zs slot i w k ∙ value i k);
           }
         where
           at : ℕ

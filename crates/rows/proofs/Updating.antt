@@ -1,5 +1,5 @@
 -- The bytes that an update leaves: what the kernels ask of them, and that they hold the rows of the rule.
-use mathlib.Core.Path.{_≡_, refl, sym, ap, _∙_}
+use mathlib.Core.Path.{_≡_, refl, sym, _∙_}
 use mathlib.Core.Logic.{_≢_, _⊎_, inl, inr, ⊎-elim}
 use mathlib.Core.List.{List, [], _∷_}
 use Prim.Native.Nat.{ℕ, zero, _+_, _-_, _*_, _≤_, _<_}
@@ -13,7 +13,7 @@ use Rattle.field.specs.Operations.{negByte}
 use Rattle.field.specs.Kernels.{Subtracts, Scales, subtracted, scaled}
 use Rattle.field.proofs.RingTactic.{ring}
 use Rattle.field.proofs.OperationLaws.{symbol-negByte}
-use Rattle.field.proofs.SymbolLaws.{symbols-field, symbol-own, symbol-byte}
+use Rattle.field.proofs.SymbolLaws.{symbols-field, symbol-byte, byte-is}
 use Rattle.field.proofs.KernelLaws.{length-subtracted, length-scaled, scaled-outside, scaled-symbol}
 use Rattle.poly.proofs.Series.{readings}
 use Rattle.rows.specs.Curves.{Curve, Lead}
@@ -65,9 +65,6 @@ module _ {S : Shape} {xs : List ℕ} {r w s v : ℕ} (x : Crosses S xs r w s v) 
         go (no a) (yes q) (inl (l, d)) = rw (q, d) (stays l j e h k ∙ own s (x .other))
         go (no a) (yes q) (inr (l, d)) = rw (q, d) (turns l j e h k ∙ own r (x .current))
 
-  byte-is : {a : ℕ} (y : Element (S .p)) → a < S .p → symbol (S .p) a ≡ y → a ≡ y .byte
-  byte-is y h e = sym (symbol-own (S .p) h) ∙ ap (λ (z : Element (S .p)). z .byte) e
-
   -- no term of a curve weighs more than its leading term
   lead-bounds : {w : ℕ} {Q : Curve R} → Lead R (S .u) w s Q → Light S w Q
   lead-bounds l j e h = l .rest j e (omega arith) (λ k. absurd (omega arith))
@@ -101,7 +98,7 @@ module _ {S : Shape} {xs : List ℕ} {r w s v : ℕ} (x : Crosses S xs r w s v) 
         new j e g k =
             let z : v - w ≡ 0 = omega arith in
             let fits = crosses-w x in
-            byte-is (cross R (v - w) (rows r) c (w - v) (rows s) j e)
+            byte-is (S .p) (cross R (v - w) (rows r) c (w - v) (rows s) j e)
             (subtracted-keeps (x .bytes .fine .size) (c .byte) _ (s * curveBytes S) _ xs (run-room (w - v) (omega arith)) (place S r j e) (place-below (x .bytes) (x .current) g k))
             (subtracted-curve S xs (s * curveBytes S) v (w - v) (rows s) (rows-stand s (x .other)) (lead-bounds (x .lead-s)) (omega arith) (x .bytes .fine .size) (c .byte) (r * curveBytes S) (room r (x .current)) j e g k
             ∙ rw (rows-stand r (x .current) j e g k, symbol-byte (S .p) c, cross-at (Φ .ring) (v - w) (rows r) c (w - v) (rows s) j e, z, delay-zero R (rows r j) e))
@@ -164,7 +161,7 @@ module _ {S : Shape} {xs : List ℕ} {r w s v : ℕ} (x : Crosses S xs r w s v) 
             let fits = crosses-v x in
             let t = room r (x .current) in
             let u = swapped .long in
-            byte-is (cross R (v - w) (rows r) c (w - v) (rows s) j e)
+            byte-is (S .p) (cross R (v - w) (rows r) c (w - v) (rows s) j e)
             (subtracted-keeps (x .bytes .fine .size) (negByte (S .p) 1) _ (s * curveBytes S) _ zs (rw long (run-room (v - w) d-small)) (place S r j e)
             (scaled-keeps (x .bytes .fine .size) (negByte (S .p) (c .byte)) (r * curveBytes S) (curveBytes S) ys (omega arith) (place S r j e) (rw (at-r g k) (place-below (x .bytes) (x .other) g k))))
             (subtracted-curve S zs (s * curveBytes S) w (v - w) (rows r) stands (lead-bounds (x .lead-r)) (omega arith) (x .bytes .fine .size) (negByte (S .p) 1) (r * curveBytes S) (rw long t) j e g k

@@ -14,11 +14,9 @@ use Rattle.field.specs.Field.{Field, FieldLaws}
 use Rattle.field.specs.Symbols.{Listed, Element, symbol, same-byte, symbols}
 use Rattle.field.specs.Operations.{minusBytes, timesBytes}
 use Rattle.field.specs.Kernels.{Region}
-use Rattle.field.proofs.RingTactic.{ring}
 use Rattle.field.proofs.OperationLaws.{symbol-timesBytes}
-use Rattle.field.proofs.SymbolLaws.{symbols-field, symbol-byte}
+use Rattle.field.proofs.SymbolLaws.{symbols-field, symbol-byte, zero-byte}
 use Rattle.poly.specs.Buffers.{Decided}
-use Rattle.poly.proofs.BufferLaws.{zero-byte}
 use Rattle.rows.specs.Curves.{Curve, Zero}
 use Rattle.rows.specs.Turns.{cross, ratio, update}
 use Rattle.rows.specs.Bytes.{slot, curveBytes, within, rowsOf}

@@ -5,11 +5,11 @@ use native.Mathlib.Numerals.{add-one}
 use borrow.Author.Tests.{eqb-true, eqb-false}
 use borrow.Author.Needs.{needs}
 use Rattle.field.specs.Symbols.{symbol, symbols}
-use Rattle.field.proofs.SymbolLaws.{byte-below}
+use Rattle.field.proofs.SymbolLaws.{byte-below, byte-zero, zero-is}
 use Rattle.field.proofs.OperationLaws.{timesBytes-below}
 use Rattle.poly.specs.Polynomials.{value}
 use Rattle.near.specs.Work.{sliceOf}
-use Rattle.near.proofs.Tests.{byte-zero, zero-is, horner, horner-none, horner-more, horner-all}
+use Rattle.near.proofs.Tests.{horner, horner-none, horner-more, horner-all}
 use Rattle.near.proofs.search.fits.Statement.{statement}
 use Rattle.near.proofs.search.fits.Tie as tie
 
