@@ -1,5 +1,6 @@
--- Constants, the variable, and x + a: every sequence is its constant term and x times its tail.
-use mathlib.Core.Path.{_≡_, refl, sym, _∙_, fun-ext}
+-- Constants, the variable and its powers, and x + a: every sequence is its constant term and x times its tail.
+use mathlib.Core.Path.{_≡_, refl, sym, _∙_, fun-ext, ap}
+use mathlib.Core.Logic.{_≢_}
 use mathlib.Core.List.{[], _∷_}
 use Prim.Native.Nat.{ℕ, zero, suc}
 use Rattle.field.specs.Ring.{Ring, RingLaws, pow}
@@ -121,3 +122,16 @@ module _ {R : Ring} (L : RingLaws R) where
 
   pub lin-is : (a : Car) → lin R a ≡ addS R (xS R) (negS R (constS R a))
   lin-is a = sym (xPlus-neg R a) ∙ xPlus-is (⊖ a) ∙ rw (const-neg a)
+
+  -- x^i has the coefficient one at i, and no other
+  pub power-same : (i : ℕ) → pow (Series R) (xS R) i i ≡ 𝟙
+  unfolding oneS consS
+  power-same zero = rw (pow-zero (Series R) (xS R))
+  power-same (suc i) = rw (pow-suc (Series R) (xS R) i, mul-x (pow (Series R) (xS R) i)) (power-same i)
+
+  pub power-other : (i j : ℕ) → j ≢ i → pow (Series R) (xS R) i j ≡ 𝟘
+  unfolding oneS consS
+  power-other zero zero ne = absurd (ne refl)
+  power-other zero (suc j) ne = rw (pow-zero (Series R) (xS R))
+  power-other (suc i) zero ne = rw (pow-suc (Series R) (xS R) i, mul-x (pow (Series R) (xS R) i))
+  power-other (suc i) (suc j) ne = rw (pow-suc (Series R) (xS R) i, mul-x (pow (Series R) (xS R) i)) (power-other i j (λ e. ne (ap suc e)))

@@ -8,9 +8,9 @@ use Rattle.field.specs.Ring.{Ring, RingLaws, pow, prod}
 use Rattle.field.specs.Field.{Field, FieldLaws}
 use Rattle.field.proofs.RingLaws.{zero-mul, mul-zero, mul-one}
 use Rattle.field.proofs.Sums.{pow-zero, pow-suc, prod-zero, prod-suc}
-use Rattle.poly.specs.Polynomials.{Seq, zeroS, oneS, mulS, Series, consS, lin, Below, locator}
+use Rattle.poly.specs.Polynomials.{Seq, zeroS, oneS, mulS, Series, consS, lin, Below, locator, xS}
 use Rattle.poly.proofs.Series.{mulS-single}
-use Rattle.poly.proofs.Bounds.{below-zero, below-drop, below-one, below-lin, below-mul-tight}
+use Rattle.poly.proofs.Bounds.{below-zero, below-drop, below-one, below-lin, below-mul-tight, below-cons}
 
 -- m 0 + .. + m (n-1)
 unfoldable pub total : ℕ → (ℕ → ℕ) → ℕ
@@ -61,6 +61,10 @@ module _ {R : Ring} (L : RingLaws R) where
   pub monic-one : Monic R 0 (oneS R)
   unfolding oneS
   monic-one = record { top = refl; rest = below-one L }
+
+  pub monic-x : Monic R 1 (xS R)
+  unfolding xS consS oneS
+  monic-x = record { top = refl; rest = below-cons L 𝟘 (below-one L) }
 
   pub monic-lin : (a : Car) → Monic R 1 (lin R a)
   unfolding lin consS oneS

@@ -1,7 +1,7 @@
 -- Coprime powers: (x - a)^m divides f exactly when f (x + a) has order m, and dividing by it keeps the orders at the other places;
 -- so at places whose differences cancel, as distinct points of a field do, the product of the powers divides f.
 use mathlib.Core.Path.{_≡_, refl, sym, ap, _∙_}
-use mathlib.Core.Logic.{_≢_}
+use mathlib.Core.Logic.{_≢_, _⊎_, inl, inr}
 use mathlib.Core.List.{[], _∷_}
 use Prim.Native.Nat.{ℕ, zero, suc, _+_, _-_, _≤_, _<_}
 use native.Mathlib.Decide.{decLe, ℕ-discrete}
@@ -14,13 +14,13 @@ use Rattle.field.proofs.RingTactic.{ring}
 use Rattle.field.proofs.Sums.{pow-zero, pow-suc, prod-zero, prod-suc}
 use Rattle.field.proofs.FieldLaws.{no-zero-divisor}
 use Rattle.poly.specs.Polynomials.{Seq, zeroS, oneS, addS, negS, mulS, Series, consS, lin, Below, value, Distinct}
-use Rattle.poly.proofs.Series.{series, readings}
+use Rattle.poly.proofs.Series.{series, readings, zeroS-at}
 use Rattle.poly.proofs.Constants.{xPlus, xPlus-zero}
 use Rattle.poly.proofs.Bounds.{below-zero, below-null, below-same, below-lin, below-add, below-neg, below-mul, below-mul-tight}
 use Rattle.poly.proofs.Division.{quot, below-quot, divide-root}
 use Rattle.poly.proofs.Shift.{shift, shift-null, shift-mul, shift-more, shift-any, shift-value, shift-lin}
 use Rattle.poly.proofs.Orders.{Ord, ord-mul, Regular, ord-cancel, regular-one, no-zero-divisors}
-use Rattle.poly.proofs.Degrees.{total, total-zero, total-suc, total-ones, Monic, monic-same, monic-lin, monic-pow, monic-prod}
+use Rattle.poly.proofs.Degrees.{total, total-zero, total-suc, total-ones, Monic, monic-same, monic-lin, monic-pow, monic-prod, Leads, degree, lead-mul}
 
 module _ (R : Ring) where
   open Ring R using (Car, plus as _⊕_, neg as ⊖_)
@@ -194,3 +194,25 @@ module _ {R : Ring} (L : RingLaws R) where
       go : Dec (n ≤ l) → n ≤ l
       go (yes k) = k
       go (no k) = absurd (ne (roots-zero (suc l) a f (λ i j p q. apart i j (omega arith) (omega arith)) h (λ s q. root s (omega arith))))
+
+module _ {F : Field} (Φ : FieldLaws F) where
+  abbrev R : Ring
+  R = F .ring
+
+  abbrev L : RingLaws R
+  L = Φ .ring
+
+  -- a nonzero multiple of a monic polynomial has no smaller degree
+  pub divides-degree : (d N t : ℕ) (g f : Seq R) → Monic R d g → Divides R N g f → Leads R t f → d ≤ t
+  divides-degree d N t g f mon div top = go (degree Φ N (div .by) (div .short))
+    where
+      go : (div .by ≡ zeroS R) ⊎ ((e : ℕ) × Leads R e (div .by)) → d ≤ t
+      go (inl z) = absurd (top .lead (ap (λ (k : Seq R). k t) (div .is ∙ ap (mulS R g) z ∙ mul-zero (series L) g) ∙ zeroS-at R t))
+      go (inr (e, q)) = high (decLe (d + e) t)
+        where
+          at : f (d + e) ≡ div .by e
+          at = ap (λ (k : Seq R). k (d + e)) (div .is) ∙ lead-mul L d e g (div .by) (mon .rest) (q .rest) ∙ ap (λ (x : R .Car). R .times x (div .by e)) (mon .top) ∙ one-mul L (div .by e)
+
+          high : Dec (d + e ≤ t) → d ≤ t
+          high (yes le) = omega arith
+          high (no le) = absurd (q .lead (sym at ∙ top .rest (d + e) (omega arith)))

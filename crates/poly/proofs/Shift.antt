@@ -1,16 +1,17 @@
 -- f (x + a), as the value of f at x + a in the ring of sequences: so shifting respects sums and products, shifts compose, and -a undoes a.
-use mathlib.Core.Path.{_≡_, sym, ap, ap₂, _∙_}
+use mathlib.Core.Path.{_≡_, sym, ap, ap₂, _∙_, fun-ext}
 use mathlib.Core.List.{[], _∷_}
 use Prim.Native.Nat.{ℕ, zero, suc, _+_, _≤_}
+use native.Mathlib.Nat.{add-zero as n-add-zero}
 use native.Mathlib.Omega.{arith}
 use Rattle.field.specs.Ring.{Ring, RingLaws, pow, sum}
-use Rattle.field.proofs.RingLaws.{one-mul, add-neg, neg-add-self}
+use Rattle.field.proofs.RingLaws.{one-mul, add-neg, neg-add-self, add-zero, mul-zero}
 use Rattle.field.proofs.RingTactic.{ring, reading}
-use Rattle.poly.specs.Polynomials.{Seq, tail, zeroS, addS, mulS, Series, constS, lin, Below, value}
+use Rattle.poly.specs.Polynomials.{Seq, tail, zeroS, addS, mulS, Series, constS, lin, Below, value, scaleS, xS}
 use Rattle.poly.proofs.Series.{series, zeroS-at, addS-at, mulS-zero, mulS-suc}
-use Rattle.poly.proofs.Constants.{xPlus, constS-zero, constS-suc, xPlus-zero, xPlus-tail, xPlus-none, xPlus-neg, xPlus-add, cons-tail}
+use Rattle.poly.proofs.Constants.{xPlus, constS-zero, constS-suc, xPlus-zero, xPlus-tail, xPlus-none, xPlus-neg, xPlus-add, cons-tail, mul-const, const-mul}
 use Rattle.poly.proofs.Bounds.{below-zero, below-tail, below-mono, below-add, below-null, below-same, below-const, below-xPlus, below-mul-tight}
-use Rattle.poly.proofs.Evaluation.{Hom, map, map-add, map-mul, map-null, map-const, map-xPlus, map-below, eval, eval-mul, constant, value-zero, value-suc, value-add, value-null, value-more, value-mul, value-const, value-xPlus, value-split}
+use Rattle.poly.proofs.Evaluation.{Hom, map, map-add, map-mul, map-null, map-const, map-xPlus, map-below, eval, eval-mul, constant, value-zero, value-suc, value-add, value-null, value-more, value-mul, value-const, value-xPlus, value-split, value-scale}
 use Rattle.poly.proofs.Parts.{drop}
 
 module _ (R : Ring) where
@@ -40,6 +41,13 @@ module _ {R : Ring} (L : RingLaws R) where
   pub shift-add : (a : Car) (N : ℕ) (f g : Seq R) → shift R a N (addS R f g) ≡ addS R (shift R a N f) (shift R a N g)
   unfolding shift
   shift-add a N f g = ap (value (Series R) (xPlus R a) N) (map-add (constant L) f g) ∙ value-add (series L) (xPlus R a) N (map R (Series R) (constS R) f) (map R (Series R) (constS R) g)
+
+  pub shift-scale : (a : Car) (N : ℕ) (c : Car) (f : Seq R) → shift R a N (scaleS R c f) ≡ scaleS R c (shift R a N f)
+  unfolding shift scaleS
+  shift-scale a N c f =
+      ap (value (Series R) (xPlus R a) N) (fun-ext (λ n. const-mul L c (f n)))
+      ∙ value-scale (series L) (xPlus R a) N (constS R c) (λ n. constS R (f n))
+      ∙ mul-const L c (shift R a N f)
 
   pub shift-mul : (a : Car) (N M : ℕ) (f g : Seq R) → Below R N f → Below R M g → shift R a (N + M) (mulS R f g) ≡ mulS R (shift R a N f) (shift R a M g)
   unfolding shift
@@ -138,3 +146,10 @@ module _ {R : Ring} (L : RingLaws R) where
       → shift R c (m + K) g ≡ addS R (sum (Series R) m (λ j. mulS R (constS R (g j)) (pow (Series R) (xPlus R c) j))) (mulS R (pow (Series R) (xPlus R c) m) (shift R c K (drop R m g)))
   unfolding shift
   shift-split c m K g = value-split (series L) (xPlus R c) m K (map R (Series R) (constS R) g)
+
+  -- the first K coefficients, as the sum of their terms
+  pub first-terms : (K : ℕ) (g : Seq R) → shift R 𝟘 K g ≡ sum (Series R) K (λ j. mulS R (constS R (g j)) (pow (Series R) (xS R) j))
+  first-terms K g =
+      ap (λ (n : ℕ). shift R 𝟘 n g) (sym (n-add-zero K))
+      ∙ shift-split 𝟘 K zero g
+      ∙ rw (shift-zero R 𝟘 (drop R K g), xPlus-none R, mul-zero (series L) (pow (Series R) (xS R) K)) (add-zero (series L) _)

@@ -2,28 +2,19 @@
 -- E_j q_j below y^m, and any coefficients from there on. So no curves are multiplied where rows are combined.
 use mathlib.Core.Path.{_≡_, sym, ap, ap₂, _∙_, fun-ext}
 use mathlib.Core.List.{[], _∷_}
-use Prim.Native.Nat.{ℕ, zero, _+_, _-_, _<_, min}
-use native.Mathlib.Nat.{add-zero as n-add-zero}
+use Prim.Native.Nat.{ℕ, _+_, _-_, _<_, min}
 use native.Mathlib.Omega.{arith}
 use Rattle.field.specs.Ring.{Ring, RingLaws, pow, sum}
-use Rattle.field.proofs.RingLaws.{add-zero, mul-zero, neg-add-self}
+use Rattle.field.proofs.RingLaws.{neg-add-self}
 use Rattle.field.proofs.RingTactic.{ring}
 use Rattle.field.proofs.Sums.{pow-zero, sum-cong, sum-split, sum-mul}
 use Rattle.poly.specs.Polynomials.{Seq, Series, negS, mulS, oneS, constS, xS, lin, Below}
 use Rattle.poly.proofs.Series.{series, readings}
-use Rattle.poly.proofs.Constants.{xPlus, xPlus-none, xPlus-neg, mul-const, const-mul, const-one}
+use Rattle.poly.proofs.Constants.{xPlus, xPlus-neg, mul-const, const-mul, const-one}
 use Rattle.poly.proofs.Parts.{drop, join, join-low, join-high, below-join}
-use Rattle.poly.proofs.Shift.{shift, shift-zero, shift-shift, shift-split, below-shift}
+use Rattle.poly.proofs.Shift.{shift, shift-shift, shift-split, below-shift, first-terms}
 use Rattle.rows.specs.Curves.{Curve, times}
 use Rattle.rows.proofs.Weights.{row}
-
-module _ {R : Ring} (L : RingLaws R) where
-  -- the first K coefficients, as a sum
-  first-terms : (K : ℕ) (g : Seq R) → shift R (R .𝟘) K g ≡ sum (Series R) K (λ j. mulS R (constS R (g j)) (pow (Series R) (xS R) j))
-  first-terms K g =
-      ap (λ (n : ℕ). shift R (R .𝟘) n g) (sym (n-add-zero K))
-      ∙ shift-split L (R .𝟘) K zero g
-      ∙ rw (shift-zero R (R .𝟘) (drop R K g), xPlus-none R, mul-zero (series L) (pow (Series R) (xS R) K)) (add-zero (series L) _)
 
 module _ {R : Ring} (L : RingLaws R) (h : Seq R) (E : ℕ → Seq R) (m K : ℕ) where
   open Ring (Series (Series R)) using (Car as Plane, 𝟙 as 𝟙₂, plus as _⊕_, times as _⊗_)

@@ -7,12 +7,11 @@ use native.Mathlib.Omega.{arith}
 use Rattle.field.specs.Ring.{Ring, RingLaws, pow, multiple, sum}
 use Rattle.field.proofs.RingLaws.{add-zero, mul-zero}
 use Rattle.field.proofs.Sums.{sum-zero, sum-suc, sum-cong}
-use Rattle.poly.specs.Polynomials.{Seq, Series, addS, mulS, scaleS, zeroS, constS, Below, value, binomial}
+use Rattle.poly.specs.Polynomials.{Seq, Series, addS, mulS, scaleS, zeroS, constS, Below, binomial}
 use Rattle.poly.proofs.Series.{series, addS-at, scaleS-at, sum-at, multiple-at}
-use Rattle.poly.proofs.Constants.{mul-const, const-mul, const-pow, xPlus}
+use Rattle.poly.proofs.Constants.{mul-const, const-pow}
 use Rattle.poly.proofs.Bounds.{below-add, below-mul, below-same}
-use Rattle.poly.proofs.Evaluation.{value-scale}
-use Rattle.poly.proofs.Shift.{shift, shift-null, shift-add, shift-mul, shift-any}
+use Rattle.poly.proofs.Shift.{shift, shift-null, shift-add, shift-mul, shift-any, shift-scale}
 use Rattle.poly.proofs.Orders.{Vanish, ord-add, ord-mul}
 use Rattle.poly.proofs.Binomials.{part, shift-binomial}
 use Rattle.rows.specs.Curves.{Curve, Finite, Height, times, Span}
@@ -38,14 +37,6 @@ module _ {R : Ring} {n m l : ℕ} {a v : ℕ → R .Car} {Q : Curve R} where
 
   pub each-passing : PassingEach R n (λ _. m) l a v Q → Passing R n m l a v Q
   each-passing p = record { finite = p .finite; height = p .height; multiplicity = p .multiplicity }
-
-module _ {R : Ring} (L : RingLaws R) where
-  shift-scale : (c : R .Car) (N : ℕ) (k : R .Car) (f : Seq R) → shift R c N (scaleS R k f) ≡ scaleS R k (shift R c N f)
-  unfolding shift scaleS
-  shift-scale c N k f =
-      ap (value (Series R) (xPlus R c) N) (fun-ext (λ n. const-mul L k (f n)))
-      ∙ value-scale (series L) (xPlus R c) N (constS R k) (λ n. constS R (f n))
-      ∙ mul-const L k (shift R c N f)
 
 module _ {R : Ring} (L : RingLaws R) where
   open Ring R using (Car, times as _⊗_)

@@ -9,8 +9,7 @@ use Rattle.field.proofs.Sums.{pow-zero, pow-suc, sum-null}
 use Rattle.poly.specs.Polynomials.{Seq, Series, tail, mulS, negS, zeroS, oneS, consS, constS, xS, lin, Below}
 use Rattle.poly.proofs.Series.{series, mulS-zero, mulS-suc, mulS-sum, addS-at, scaleS-at}
 use Rattle.poly.proofs.Constants.{mul-const}
-use Rattle.poly.proofs.Bounds.{below-cons, below-one}
-use Rattle.poly.proofs.Degrees.{Monic, monic-lin, monic-mul, monic-pow, monic-same}
+use Rattle.poly.proofs.Degrees.{Monic, monic-lin, monic-mul, monic-pow, monic-same, monic-x}
 use Rattle.rows.specs.Curves.{Curve, Finite, Height, times}
 use Rattle.rows.proofs.Heights.{below-height}
 
@@ -29,11 +28,6 @@ module _ (R : Ring) where
   -- every term weighs less than W, if x^i y^j weighs i + u j + c
   abbrev Lighter : ℕ → ℕ → ℕ → Curve R → Type 0
   Lighter u W c Q = (j : ℕ) → Low W (u * j + c) (Q j)
-
-module _ {R : Ring} (L : RingLaws R) where
-  monic-x : Monic R 1 (xS R)
-  unfolding xS consS oneS
-  monic-x = record { top = refl; rest = below-cons L (R .𝟘) (below-one L) }
 
 module _ {R : Ring} (L : RingLaws R) where
   open Ring R using (Car, 𝟘, plus as _⊕_, times as _⊗_, neg as ⊖_)

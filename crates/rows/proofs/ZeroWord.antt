@@ -1,23 +1,22 @@
 -- For the all-zero word h is 0, so e^(m-t) divides the coefficient of y^t of every curve of demand 2. As e has degree n > u, no such
 -- curve has a smaller leading term than y^m.
-use mathlib.Core.Path.{_≡_, refl, sym, ap, _∙_}
-use mathlib.Core.Logic.{_≢_, _⊎_, inl, inr}
-use Prim.Native.Nat.{ℕ, zero, suc, _+_, _-_, _*_, _≤_, _<_, min}
+use mathlib.Core.Path.{_≡_, sym, ap, _∙_}
+use Prim.Native.Nat.{ℕ, suc, _+_, _-_, _*_, _≤_, _<_, min}
 use native.Mathlib.Nat.{sub-self, mul-le-mul-left}
 use native.Mathlib.Omega.{arith}
 use native.Mathlib.Decide.{decLe, ℕ-discrete}
 use Rattle.field.specs.Ring.{Ring, RingLaws, pow}
 use Rattle.field.specs.Field.{Field, FieldLaws}
-use Rattle.field.proofs.RingLaws.{mul-one, one-mul, mul-zero, neg-zero}
-use Rattle.field.proofs.Sums.{pow-zero, pow-suc, prod-pow}
-use Rattle.poly.specs.Polynomials.{Seq, Series, mulS, zeroS, oneS, consS, xS, lin, Distinct, Through, locator}
+use Rattle.field.proofs.RingLaws.{mul-one, one-mul, neg-zero}
+use Rattle.field.proofs.Sums.{pow-zero, prod-pow}
+use Rattle.poly.specs.Polynomials.{Seq, Series, zeroS, oneS, xS, lin, Distinct, Through, locator}
 use Rattle.poly.proofs.Series.{series, zeroS-at}
-use Rattle.poly.proofs.Constants.{xPlus, xPlus-none, xPlus-neg, const-one, mul-x}
+use Rattle.poly.proofs.Constants.{xPlus, xPlus-none, xPlus-neg, const-one, power-same, power-other}
 use Rattle.poly.proofs.Bounds.{below-null, below-one}
 use Rattle.poly.proofs.Evaluation.{value-null}
 use Rattle.poly.proofs.Shift.{shift-none}
-use Rattle.poly.proofs.Degrees.{total, Monic, Leads, degree, lead-mul, monic-pow, monic-locator}
-use Rattle.poly.proofs.Places.{Divides, distinct-apart}
+use Rattle.poly.proofs.Degrees.{total, degree, monic-pow, monic-locator}
+use Rattle.poly.proofs.Places.{Divides, distinct-apart, divides-degree}
 use Rattle.rows.specs.Curves.{Curve, Lead, AtMost, Smallest}
 use Rattle.rows.specs.Multiplicity.{Passing}
 use Rattle.rows.specs.Start.{startRow}
@@ -26,41 +25,12 @@ use Rattle.rows.proofs.Heights.{height-below}
 use Rattle.rows.proofs.Multiplicities.{multiplicity-vanish}
 use Rattle.rows.proofs.Generated.{along-divides, start-passes}
 
--- x^i
-module _ {R : Ring} (L : RingLaws R) where
-  power-same : (i : ℕ) → pow (Series R) (xS R) i i ≡ R .𝟙
-  unfolding oneS consS
-  power-same zero = rw (pow-zero (Series R) (xS R))
-  power-same (suc i) = rw (pow-suc (Series R) (xS R) i, mul-x L (pow (Series R) (xS R) i)) (power-same i)
-
-  power-other : (i j : ℕ) → j ≢ i → pow (Series R) (xS R) i j ≡ R .𝟘
-  unfolding oneS consS
-  power-other zero zero ne = absurd (ne refl)
-  power-other zero (suc j) ne = rw (pow-zero (Series R) (xS R))
-  power-other (suc i) zero ne = rw (pow-suc (Series R) (xS R) i, mul-x L (pow (Series R) (xS R) i))
-  power-other (suc i) (suc j) ne = rw (pow-suc (Series R) (xS R) i, mul-x L (pow (Series R) (xS R) i)) (power-other i j (λ e. ne (ap suc e)))
-
 module _ {F : Field} (Φ : FieldLaws F) where
   abbrev R : Ring
   R = F .ring
 
   abbrev L : RingLaws R
   L = Φ .ring
-
-  -- a nonzero multiple of a polynomial has no smaller degree
-  divides-degree : (d N t : ℕ) (g f : Seq R) → Monic R d g → Divides R N g f → Leads R t f → d ≤ t
-  divides-degree d N t g f mon div top = go (degree Φ N (div .by) (div .short))
-    where
-      go : (div .by ≡ zeroS R) ⊎ ((e : ℕ) × Leads R e (div .by)) → d ≤ t
-      go (inl z) = absurd (top .lead (ap (λ (k : Seq R). k t) (div .is ∙ ap (mulS R g) z ∙ mul-zero (series L) g) ∙ zeroS-at R t))
-      go (inr (e, q)) = high (decLe (d + e) t)
-        where
-          at : f (d + e) ≡ div .by e
-          at = ap (λ (k : Seq R). k (d + e)) (div .is) ∙ lead-mul L d e g (div .by) (mon .rest) (q .rest) ∙ ap (λ (x : R .Car). R .times x (div .by e)) (mon .top) ∙ one-mul L (div .by e)
-
-          high : Dec (d + e ≤ t) → d ≤ t
-          high (yes le) = omega arith
-          high (no le) = absurd (q .lead (sym at ∙ top .rest (d + e) (omega arith)))
 
   module _ {n : ℕ} {a : ℕ → R .Car} (inj : Distinct R n a) (u m l : ℕ) (un : u < n) (ml : m ≤ l) where
     abbrev Member : Curve R → Type 0
@@ -77,7 +47,7 @@ module _ {F : Field} (Φ : FieldLaws F) where
 
     member-degree : (P : Curve R) → Member P → (v t : ℕ) (p : Lead R u v t P) → (m - t) * n ≤ p .degree
     member-degree P mem v t p =
-        divides-degree ((m - t) * n) N (p .degree) (e^ t) (P t) (monic-pow L n (m - t) (locator R n a) (monic-locator L n a)) divides
+        divides-degree Φ ((m - t) * n) N (p .degree) (e^ t) (P t) (monic-pow L n (m - t) (locator R n a) (monic-locator L n a)) divides
         (record { lead = p .nonzero; rest = λ i k. let w = p .weight in p .rest t i (omega arith) (λ q. absurd (omega arith)) })
       where
         N : ℕ
