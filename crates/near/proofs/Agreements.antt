@@ -12,7 +12,7 @@ use Rattle.poly.proofs.Bounds.{below-same}
 use Rattle.poly.proofs.Evaluation.{value-more}
 use Rattle.poly.proofs.Shift.{shift, shift-value, shift-any}
 use Rattle.poly.proofs.Orders.{Ord}
-use Rattle.poly.proofs.Degrees.{total, total-zero, total-suc}
+use Rattle.poly.proofs.Degrees.{sumBelow, sumBelow-zero, sumBelow-suc}
 use Rattle.poly.proofs.Places.{distinct-apart, orders-zero}
 use Rattle.rows.specs.Curves.{Curve, Finite, Under, Lead}
 use Rattle.rows.specs.Multiplicity.{Multiplicity, Passing}
@@ -45,9 +45,9 @@ module _ {F : Field} (job : Task F) (g : Seq (F .ring)) where
   unfolding agreements
   agreements-suc n = refl
 
-  agreements-total : (m n : ℕ) → total n (λ s. m * one (agrees? s)) ≡ m * agreements job n g
-  agreements-total m zero = total-zero (λ s. m * one (agrees? s)) ∙ rw agreements-zero (sym (mul-zero m))
-  agreements-total m (suc n) = rw (total-suc n (λ s. m * one (agrees? s)), agreements-total m n, agreements-suc n) (sym (mul-add m (agreements job n g) (one (agrees? n))))
+  agreements-sum : (m n : ℕ) → sumBelow n (λ s. m * one (agrees? s)) ≡ m * agreements job n g
+  agreements-sum m zero = sumBelow-zero (λ s. m * one (agrees? s)) ∙ rw agreements-zero (sym (mul-zero m))
+  agreements-sum m (suc n) = rw (sumBelow-suc n (λ s. m * one (agrees? s)), agreements-sum m n, agreements-suc n) (sym (mul-add m (agreements job n g) (one (agrees? n))))
 
 module _ {F : Field} (Φ : FieldLaws F) (job : Task F) (points : Distinct (F .ring) (job .n) (job .point)) where
   abbrev R : Ring
@@ -58,7 +58,7 @@ module _ {F : Field} (Φ : FieldLaws F) (job : Task F) (points : Distinct (F .ri
 
   -- a multiplicity for each place
   module _ {W : ℕ} {Q : Curve R} (fin : Finite R Q) (light : Under R (job .k - 1) W 0 Q) (N : ℕ) (ms : ℕ → ℕ) (mult : (s : ℕ) → s < job .n → Multiplicity R (ms s) (fin .0) N (job .point s) (job .received s) Q) where
-    pub nobody-missing : (g : Seq R) → Below R (job .k) g → W ≤ total (job .n) (λ s. ms s * one (agrees? job g s)) → value (Series R) g N Q ≡ zeroS R
+    pub nobody-missing : (g : Seq R) → Below R (job .k) g → W ≤ sumBelow (job .n) (λ s. ms s * one (agrees? job g s)) → value (Series R) g N Q ≡ zeroS R
     nobody-missing g short le =
         orders-zero L (job .n) W (job .point) (λ s. ms s * one (agrees? job g s)) (value (Series R) g N Q) (distinct-apart Φ (job .n) (job .point) points)
         (below-graph L (job .k - 1) W N Q g wide light) le (λ s l. order s l (agrees? job g s))
@@ -74,6 +74,6 @@ module _ {F : Field} (Φ : FieldLaws F) (job : Task F) (points : Distinct (F .ri
   module _ {m l w s : ℕ} {Q : Curve R} (pass : Passing R (job .n) m l (job .point) (job .received) Q) (lead : Lead R (job .k - 1) w s Q) (enough : w < m * job .t) where
     pub wanted-root : (g : Seq R) → Wanted job g → value (Series R) g (suc l) Q ≡ zeroS R
     wanted-root g want =
-        let e = agreements-total job g m (job .n) in
+        let e = agreements-sum job g m (job .n) in
         let le : m * job .t ≤ m * agreements job (job .n) g = mul-le-mul-left m (want .agrees) in
         nobody-missing (pass .finite) (under-mono R (job .k - 1) w (suc s) (suc w) 0 Q (omega arith) (λ q. absurd (omega arith)) (lead .rest)) (suc l) (λ s. m) (pass .multiplicity) g (want .degree) (omega arith)

@@ -13,21 +13,21 @@ use Rattle.poly.proofs.Series.{mulS-single}
 use Rattle.poly.proofs.Bounds.{below-zero, below-drop, below-one, below-lin, below-mul-tight, below-cons}
 
 -- m 0 + .. + m (n-1)
-unfoldable pub total : ℕ → (ℕ → ℕ) → ℕ
-total zero m = 0
-total (suc n) m = total n m + m n
+unfoldable pub sumBelow : ℕ → (ℕ → ℕ) → ℕ
+sumBelow zero m = 0
+sumBelow (suc n) m = sumBelow n m + m n
 
-pub total-zero : (m : ℕ → ℕ) → total zero m ≡ 0
-unfolding total
-total-zero m = refl
+pub sumBelow-zero : (m : ℕ → ℕ) → sumBelow zero m ≡ 0
+unfolding sumBelow
+sumBelow-zero m = refl
 
-pub total-suc : (n : ℕ) (m : ℕ → ℕ) → total (suc n) m ≡ total n m + m n
-unfolding total
-total-suc n m = refl
+pub sumBelow-suc : (n : ℕ) (m : ℕ → ℕ) → sumBelow (suc n) m ≡ sumBelow n m + m n
+unfolding sumBelow
+sumBelow-suc n m = refl
 
-pub total-ones : (n : ℕ) → total n (λ s. 1) ≡ n
-total-ones zero = total-zero (λ s. 1)
-total-ones (suc n) = let e = total-suc n (λ s. 1) in let d = total-ones n in omega arith
+pub sumBelow-ones : (n : ℕ) → sumBelow n (λ s. 1) ≡ n
+sumBelow-ones zero = sumBelow-zero (λ s. 1)
+sumBelow-ones (suc n) = let e = sumBelow-suc n (λ s. 1) in let d = sumBelow-ones n in omega arith
 
 module _ (R : Ring) where
   open Ring R using (𝟘, 𝟙)
@@ -82,13 +82,13 @@ module _ {R : Ring} (L : RingLaws R) where
   monic-pow d zero g h = monic-same L (omega arith) (pow-zero (Series R) g) (monic-one L)
   monic-pow d (suc m) g h = monic-same L (omega arith) (pow-suc (Series R) g m) (monic-mul L d (m * d) g (pow (Series R) g m) h (monic-pow d m g h))
 
-  pub monic-prod : (n : ℕ) (d : ℕ → ℕ) (g : ℕ → Seq R) → ((i : ℕ) → Monic R (d i) (g i)) → Monic R (total n d) (prod (Series R) n g)
-  monic-prod zero d g h = monic-same L (total-zero d) (prod-zero (Series R) g) (monic-one L)
+  pub monic-prod : (n : ℕ) (d : ℕ → ℕ) (g : ℕ → Seq R) → ((i : ℕ) → Monic R (d i) (g i)) → Monic R (sumBelow n d) (prod (Series R) n g)
+  monic-prod zero d g h = monic-same L (sumBelow-zero d) (prod-zero (Series R) g) (monic-one L)
   monic-prod (suc n) d g h =
-      monic-same L (total-suc n d) (prod-suc (Series R) n g) (monic-mul L (total n d) (d n) (prod (Series R) n g) (g n) (monic-prod n d g h) (h n))
+      monic-same L (sumBelow-suc n d) (prod-suc (Series R) n g) (monic-mul L (sumBelow n d) (d n) (prod (Series R) n g) (g n) (monic-prod n d g h) (h n))
 
   pub monic-locator : (n : ℕ) (a : ℕ → R .Car) → Monic R n (locator R n a)
-  monic-locator n a = rw (total-ones n) at (monic-prod n (λ s. 1) (λ s. lin R (a s)) (λ s. monic-lin L (a s)))
+  monic-locator n a = rw (sumBelow-ones n) at (monic-prod n (λ s. 1) (λ s. lin R (a s)) (λ s. monic-lin L (a s)))
 
 module _ {F : Field} (Φ : FieldLaws F) where
   abbrev R : Ring

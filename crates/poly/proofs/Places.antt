@@ -20,7 +20,7 @@ use Rattle.poly.proofs.Bounds.{below-zero, below-null, below-same, belo
 use Rattle.poly.proofs.Division.{quot, below-quot, divide-root}
 use Rattle.poly.proofs.Shift.{shift, shift-null, shift-mul, shift-more, shift-any, shift-value, shift-lin}
 use Rattle.poly.proofs.Orders.{Ord, ord-mul, Regular, ord-cancel, regular-one, no-zero-divisors}
-use Rattle.poly.proofs.Degrees.{total, total-zero, total-suc, total-ones, Monic, monic-same, monic-lin, monic-pow, monic-prod, Leads, degree, lead-mul}
+use Rattle.poly.proofs.Degrees.{sumBelow, sumBelow-zero, sumBelow-suc, sumBelow-ones, Monic, monic-same, monic-lin, monic-pow, monic-prod, Leads, degree, lead-mul}
 
 module _ (R : Ring) where
   open Ring R using (Car, plus as _⊕_, neg as ⊖_)
@@ -103,7 +103,7 @@ module _ {R : Ring} (L : RingLaws R) where
   pub monic-factorAt : (a : Car) (m : ℕ) → Monic R m (factorAt R a m)
   monic-factorAt a m = monic-same L (omega arith) refl (monic-pow L 1 m (lin R a) (monic-lin L a))
 
-  pub monic-factorsAt : (n : ℕ) (a : ℕ → Car) (m : ℕ → ℕ) → Monic R (total n m) (factorsAt R n a m)
+  pub monic-factorsAt : (n : ℕ) (a : ℕ → Car) (m : ℕ → ℕ) → Monic R (sumBelow n m) (factorsAt R n a m)
   monic-factorsAt n a m = monic-prod L n m (λ s. factorAt R (a s) (m s)) (λ s. monic-factorAt (a s) (m s))
 
   -- order at least m at a gives the factor (x - a)^m, and the quotient has at the other places the orders that f has
@@ -142,13 +142,13 @@ module _ {R : Ring} (L : RingLaws R) where
 
   -- orders at places that are apart give the product as a factor
   pub factorsAt-divide : (n N : ℕ) (a : ℕ → Car) (m : ℕ → ℕ) (f : Seq R) → Apart R n a → Below R N f
-      → ((s : ℕ) → s < n → Ord R (m s) (shift R (a s) N f)) → Divides R (N - total n m) (factorsAt R n a m) f
+      → ((s : ℕ) → s < n → Ord R (m s) (shift R (a s) N f)) → Divides R (N - sumBelow n m) (factorsAt R n a m) f
   factorsAt-divide zero N a m f apart h o =
-      record { by = f; short = rw (total-zero m, sub-zero N) h; is = rw (prod-zero (Series R) (λ s. factorAt R (a s) (m s))) (sym (one-mul (series L) f)) }
+      record { by = f; short = rw (sumBelow-zero m, sub-zero N) h; is = rw (prod-zero (Series R) (λ s. factorAt R (a s) (m s))) (sym (one-mul (series L) f)) }
   factorsAt-divide (suc n) N a m f apart h o =
       let r = factorAt-divides (m n) N (a n) f h (o n (omega arith)) in
       let d = factorsAt-divide n (N - m n) a m (r .0 .by) (λ i j l k. apart i j (omega arith) (omega arith)) (r .0 .short) (λ s l. r .1 (a s) (m s) (apart s n (omega arith) (omega arith) (λ e. omega arith)) (o s (omega arith))) in
-      let t = total-suc n m in
+      let t = sumBelow-suc n m in
       record {
         by = d .by;
         short = λ i l. d .short i (omega arith);
@@ -170,18 +170,18 @@ module _ {R : Ring} (L : RingLaws R) where
       e = record { by = d .by; short = d .short; is = d .is ∙ rw (prod-suc (Series R) n (λ s. factorAt R (a s) (m s))) }
 
       go : Dec (s ≡ n) → (s < n → Ord R (m s) (shift R (a s) K f)) → Ord R (m s) (shift R (a s) K f)
-      go (yes q) ih = rw q (factorAt-order (m n) K (suc (total n m) + N) (a n) f h (divides-right N (suc (total n m)) (factorsAt R n a m) (factorAt R (a n) (m n)) f (monic-factorsAt n a m .rest) e))
+      go (yes q) ih = rw q (factorAt-order (m n) K (suc (sumBelow n m) + N) (a n) f h (divides-right N (suc (sumBelow n m)) (factorsAt R n a m) (factorAt R (a n) (m n)) f (monic-factorsAt n a m .rest) e))
       go (no q) ih = ih (omega arith)
 
   -- a polynomial that vanishes, counted with multiplicity, as often as it may have coefficients, is zero
-  pub orders-zero : (n N : ℕ) (a : ℕ → Car) (m : ℕ → ℕ) (f : Seq R) → Apart R n a → Below R N f → N ≤ total n m
+  pub orders-zero : (n N : ℕ) (a : ℕ → Car) (m : ℕ → ℕ) (f : Seq R) → Apart R n a → Below R N f → N ≤ sumBelow n m
       → ((s : ℕ) → s < n → Ord R (m s) (shift R (a s) N f)) → f ≡ zeroS R
   orders-zero n N a m f apart h le o =
       let d = factorsAt-divide n N a m f apart h o in
       d .is ∙ rw (below-zero L (λ i l. d .short i (omega arith))) (mul-zero (series L) (factorsAt R n a m))
 
   pub roots-zero : (N : ℕ) (a : ℕ → Car) (f : Seq R) → Apart R N a → Below R N f → ((s : ℕ) → s < N → value R (a s) N f ≡ 𝟘) → f ≡ zeroS R
-  roots-zero N a f apart h root = let t = total-ones N in orders-zero N N a (λ s. 1) f apart h (omega arith) once
+  roots-zero N a f apart h root = let t = sumBelow-ones N in orders-zero N N a (λ s. 1) f apart h (omega arith) once
     where
       once : (s : ℕ) → s < N → Ord R 1 (shift R (a s) N f)
       once s l zero k = shift-value L (a s) N f ∙ root s l

@@ -13,7 +13,7 @@ use Rattle.poly.proofs.Bounds.{below-same, below-neg}
 use Rattle.poly.proofs.Parts.{drop, join, join-low, join-high, parts-ext}
 use Rattle.poly.proofs.Shift.{shift, shift-back, shift-forth, below-shift}
 use Rattle.poly.proofs.Orders.{Ord, Vanish}
-use Rattle.poly.proofs.Degrees.{total}
+use Rattle.poly.proofs.Degrees.{sumBelow}
 use Rattle.poly.proofs.Places.{factorAt, factorsAt, monic-factorsAt, Apart, distinct-apart, Divides, factorsAt-divide, factorsAt-order}
 use Rattle.rows.specs.Curves.{Curve, Finite, Height, Span}
 use Rattle.rows.specs.Multiplicity.{Passing}
@@ -40,7 +40,7 @@ module _ {R : Ring} (L : RingLaws R) {n : ℕ} {a v : ℕ → R .Car} {h : Seq R
     along-bound = below-along L (fin .0) n N Q h (fin .1) (thr .short)
 
     -- E_j divides the coefficient of y^j along h
-    pub along-divides : Apart R n a → ((s : ℕ) → s < n → Vanish R (ms s) (moved R (fin .0) N (a s) (v s) Q)) → (j : ℕ) → Divides R (N * n + fin .0 - total n (λ s. ms s - j)) (E j) (shift (Series R) h N Q j)
+    pub along-divides : Apart R n a → ((s : ℕ) → s < n → Vanish R (ms s) (moved R (fin .0) N (a s) (v s) Q)) → (j : ℕ) → Divides R (N * n + fin .0 - sumBelow n (λ s. ms s - j)) (E j) (shift (Series R) h N Q j)
     along-divides apart van j =
         factorsAt-divide L n (N * n + fin .0) a (λ s. ms s - j) (shift (Series R) h N Q j) apart (along-bound j) (λ s l. along L thr s l N Q fin (ms s) (van s l) j)
 
@@ -66,7 +66,7 @@ module _ {R : Ring} (L : RingLaws R) {n : ℕ} {a v : ℕ → R .Car} {h : Seq R
             is = sym (shift-back (series L) h (m + K) Q tall) ∙ ap (shift (Series R) (negS R h) (m + K)) same ∙ sym (combination-is L h E m K q factor-one);
           }
         where
-          d : (j : ℕ) → Divides R (M - total n (λ s. ms s - j)) (E j) (b j)
+          d : (j : ℕ) → Divides R (M - sumBelow n (λ s. ms s - j)) (E j) (b j)
           d = along-divides (m + K) Q fin apart van
 
           low : Curve R
@@ -118,7 +118,7 @@ module _ {R : Ring} (L : RingLaws R) {n : ℕ} {a v : ℕ → R .Car} {h : Seq R
       row-passes : (i : ℕ) → i < suc l → PassingEach R n ms l a v (row R m E h i)
       row-passes i k =
           let e : m + (suc l - m) ≡ suc l = omega arith in
-          let fin : Finite R (row R m E h i) = row-finite L m E h i (total n (λ s. ms s - i)) n (monic-factorsAt L n a (λ s. ms s - i) .rest) (λ j q. thr .short j (omega arith)) in
+          let fin : Finite R (row R m E h i) = row-finite L m E h i (sumBelow n (λ s. ms s - i)) n (monic-factorsAt L n a (λ s. ms s - i) .rest) (λ j q. thr .short j (omega arith)) in
           let tall : Height R (suc l) (row R m E h i) = λ j t q. row-height L m E h i j t (omega arith) in
           record {
             finite = fin;

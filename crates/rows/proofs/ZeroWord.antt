@@ -15,7 +15,7 @@ use Rattle.poly.proofs.Constants.{xPlus, xPlus-none, xPlus-neg, const-one, powe
 use Rattle.poly.proofs.Bounds.{below-null, below-one}
 use Rattle.poly.proofs.Evaluation.{value-null}
 use Rattle.poly.proofs.Shift.{shift-none}
-use Rattle.poly.proofs.Degrees.{total, degree, monic-pow, monic-locator}
+use Rattle.poly.proofs.Degrees.{sumBelow, degree, monic-pow, monic-locator}
 use Rattle.poly.proofs.Places.{Divides, distinct-apart, divides-degree}
 use Rattle.rows.specs.Curves.{Curve, Lead, AtMost, Smallest}
 use Rattle.rows.specs.Multiplicity.{Passing}
@@ -51,7 +51,7 @@ module _ {F : Field} (Φ : FieldLaws F) where
         (record { lead = p .nonzero; rest = λ i k. let w = p .weight in p .rest t i (omega arith) (λ q. absurd (omega arith)) })
       where
         N : ℕ
-        N = suc l * n + mem .finite .0 - total n (λ s. m - t)
+        N = suc l * n + mem .finite .0 - sumBelow n (λ s. m - t)
 
         divides : Divides R N (e^ t) (P t)
         divides = rw (prod-pow (series L) n (m - t) (λ s. lin R (a s)), shift-none (series L) (suc l) P (height-below R (mem .height))) at
