@@ -9,6 +9,7 @@ use native.Mathlib.Nat.{suc-sub-suc, zero-sub, sub-zero}
 use lib.ListN.{getD}
 use lib.Dec.{leb, eqb, T, isEq, eqb→eq}
 use Rattle.field.specs.Ring.{Ring, RingLaws, pow, multiple}
+use Rattle.field.proofs.Tests.{both, both-left, both-right}
 use Rattle.field.proofs.RingLaws.{add-assoc, add-left-comm, zero-add, neg-zero, neg-add, add-neg-left, mul-assoc, mul-left-comm, mul-one, one-mul, mul-add, add-mul, mul-zero, zero-mul, Expand, multiple-add, multiple-mul}
 
 infixl 65 _:+_
@@ -61,14 +62,6 @@ cmp-eq (a ∷ m) [] h = absurd h
 cmp-eq (a ∷ m) (b ∷ n) h =
     let c = lex-eq (compare a b) (cmp m n) h in
     ap₂ {A = ℕ} {B = List ℕ} {C = List ℕ} _∷_ (eqb→eq a b (c .0)) (cmp-eq m n (c .1))
-
-abbrev andalso : Bool → Bool → Bool
-andalso true b = b
-andalso false b = false
-
-andalso-both : (a b : Bool) → T (andalso a b) → T a × T b
-andalso-both true b h = (tt, h)
-andalso-both false b h = absurd h
 
 abbrev keep : ℕ → ℕ → List ℕ → List Term → List Term
 keep zero zero m q = q
@@ -126,27 +119,25 @@ norm (:- a) = negP (norm a)
 norm (a :^ n) = powP (norm a) n
 
 abbrev sameTerm : Term → Term → Bool
-sameTerm (mk m p n) (mk m′ p′ n′) = andalso (isEq (cmp m m′)) (andalso (eqb p p′) (eqb n n′))
+sameTerm (mk m p n) (mk m′ p′ n′) = both (isEq (cmp m m′)) (both (eqb p p′) (eqb n n′))
 
 abbrev sameSum : List Term → List Term → Bool
 sameSum [] [] = true
 sameSum [] (u ∷ q) = false
 sameSum (t ∷ p) [] = false
-sameSum (t ∷ p) (u ∷ q) = let r = sameSum p q in andalso (sameTerm t u) r
+sameSum (t ∷ p) (u ∷ q) = let r = sameSum p q in both (sameTerm t u) r
 
 sameTerm-eq : (t u : Term) → T (sameTerm t u) → t ≡ u
 sameTerm-eq (mk m p n) (mk m′ p′ n′) h =
-    let c = andalso-both (isEq (cmp m m′)) (andalso (eqb p p′) (eqb n n′)) h in
-    let d = andalso-both (eqb p p′) (eqb n n′) (c .1) in
-    rw (cmp-eq m m′ (c .0), eqb→eq p p′ (d .0), eqb→eq n n′ (d .1))
+    let c = both-right (isEq (cmp m m′)) (both (eqb p p′) (eqb n n′)) h in
+    rw (cmp-eq m m′ (both-left (isEq (cmp m m′)) _ h), eqb→eq p p′ (both-left (eqb p p′) (eqb n n′) c), eqb→eq n n′ (both-right (eqb p p′) (eqb n n′) c))
 
 sameSum-eq : (p q : List Term) → T (sameSum p q) → p ≡ q
 sameSum-eq [] [] h = refl
 sameSum-eq [] (u ∷ q) h = absurd h
 sameSum-eq (t ∷ p) [] h = absurd h
 sameSum-eq (t ∷ p) (u ∷ q) h =
-    let c = andalso-both (sameTerm t u) (sameSum p q) h in
-    ap₂ {A = Term} {B = List Term} {C = List Term} _∷_ (sameTerm-eq t u (c .0)) (sameSum-eq p q (c .1))
+    ap₂ {A = Term} {B = List Term} {C = List Term} _∷_ (sameTerm-eq t u (both-left (sameTerm t u) (sameSum p q) h)) (sameSum-eq p q (both-right (sameTerm t u) (sameSum p q) h))
 
 -- what an expression and its normal form mean, at the values ρ of the atoms
 module _ (R : Ring) (ρ : List (R .Car)) where
