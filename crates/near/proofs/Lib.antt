@@ -1,4 +1,3 @@
-pub mod Monomials
 pub mod Messages
 pub mod Lists
 pub mod Weights

@@ -16,8 +16,8 @@ use Rattle.poly.proofs.Series.{addS-at}
 use Rattle.poly.proofs.Constants.{constS-zero, constS-suc}
 use Rattle.poly.proofs.Parts.{parts-ext}
 use Rattle.rows.specs.Turns.{mono}
+use Rattle.rows.proofs.Monomials.{mono-zero, mono-mul-at, mono-mul-low, mono-mono}
 use Rattle.near.specs.Lists.{Task, Numbering, polynomial, Spelt}
-use Rattle.near.proofs.Monomials.{mono-zero, mono-mul-at, mono-mul-low, mono-mono}
 
 pub spelt-nil : {p : ℕ} → Spelt p 0 []
 spelt-nil = record { long = refl; small = λ i l. absurd (omega arith) }

@@ -14,8 +14,8 @@ use Rattle.poly.proofs.Shift.{shift, shift-zero, shift-at-zero, shift-at-suc, s
 use Rattle.rows.specs.Curves.{Curve, Height}
 use Rattle.rows.specs.Turns.{mono}
 use Rattle.rows.proofs.Heights.{height-below}
+use Rattle.rows.proofs.Monomials.{mono-mul-at, mono-mul-low, mono-neg}
 use Rattle.near.specs.Search.{curveAt, chosen}
-use Rattle.near.proofs.Monomials.{mono-mul-at, mono-mul-low, mono-neg}
 
 module _ (R : Ring) where
   open Ring R using (Car, plus as _⊕_, times as _⊗_)

@@ -19,8 +19,8 @@ use Rattle.poly.proofs.Orders.{Ord, ord-add, ord-mul, ord-mul-lowest}
 use Rattle.rows.specs.Curves.{Curve}
 use Rattle.rows.specs.Turns.{mono}
 use Rattle.rows.proofs.Put.{choose-yes, choose-no}
+use Rattle.rows.proofs.Monomials.{mono-mul-at, mono-mul-low, mono-pow}
 use Rattle.near.specs.Search.{curveAt, line, slice}
-use Rattle.near.proofs.Monomials.{mono-mul-at, mono-mul-low, mono-pow}
 
 module _ {R : Ring} (L : RingLaws R) where
   open Ring R using (Car, 𝟘, 𝟙, plus as _⊕_, times as _⊗_)

@@ -1,43 +1,17 @@
 -- x^a P - c x^b Q, coefficient by coefficient: what stands in it, and that leading terms at the same power of y cancel.
-use mathlib.Core.Path.{_≡_, refl, sym, ap, ap₂, _∙_}
+use mathlib.Core.Path.{_≡_, ap, ap₂, _∙_}
 use mathlib.Core.List.{[], _∷_}
-use Prim.Native.Nat.{ℕ, zero, suc, _+_}
-use native.Mathlib.Nat.{suc-add, zero-add as n-zero-add}
+use Prim.Native.Nat.{ℕ, _+_}
 use native.Mathlib.Omega.{arith}
 use Rattle.field.specs.Ring.{Ring, RingLaws}
-use Rattle.field.proofs.RingLaws.{add-zero, zero-add, mul-zero, zero-mul, neg-zero}
+use Rattle.field.proofs.RingLaws.{add-zero, mul-zero, neg-zero}
 use Rattle.field.proofs.RingTactic.{ring}
-use Rattle.poly.specs.Polynomials.{Seq, addS, mulS, scaleS, consS, Below}
-use Rattle.poly.proofs.Series.{readings, scaleS-at, mulS-zero, mulS-suc}
-use Rattle.poly.proofs.Constants.{mul-const}
-use Rattle.poly.proofs.Bounds.{below-cons, below-const}
+use Rattle.poly.specs.Polynomials.{addS, scaleS}
+use Rattle.poly.proofs.Series.{readings}
 use Rattle.rows.specs.Curves.{Curve, Height, Under, Lead, times}
 use Rattle.rows.specs.Turns.{mono, cross}
 use Rattle.rows.proofs.Leads.{under-step}
-
-module _ (R : Ring) where
-  open Ring R using (𝟘)
-
-  -- x^d f: d zeros, then f
-  unfoldable pub delay : ℕ → Seq R → Seq R
-  delay zero f i = f i
-  delay (suc d) f zero = 𝟘
-  delay (suc d) f (suc i) = delay d f i
-
-  pub delay-zero : (f : Seq R) (i : ℕ) → delay zero f i ≡ f i
-  unfolding delay
-  delay-zero f i = refl
-
-  pub delay-at : (d i : ℕ) (f : Seq R) → delay d f (d + i) ≡ f i
-  unfolding delay
-  delay-at zero i f = rw (n-zero-add i)
-  delay-at (suc d) i f = rw (suc-add d i) (delay-at d i f)
-
-  pub delay-null : (d i : ℕ) (f : Seq R) → ((e : ℕ) → d + e ≡ i → f e ≡ 𝟘) → delay d f i ≡ 𝟘
-  unfolding delay
-  delay-null zero i f h = h i (omega arith)
-  delay-null (suc d) zero f h = refl
-  delay-null (suc d) (suc i) f h = delay-null d i f (λ e q. h e (omega arith))
+use Rattle.rows.proofs.Monomials.{delay, delay-at, delay-null, mono-mul}
 
 module _ {R : Ring} (L : RingLaws R) where
   open Ring R using (Car, 𝟘, 𝟙, plus as _⊕_, times as _⊗_, neg as ⊖_)
@@ -45,20 +19,9 @@ module _ {R : Ring} (L : RingLaws R) where
   infixl 65 _⊕_
   infixl 70 _⊗_
   infix 75 ⊖_
-  pub mono-below : (c : Car) (d : ℕ) → Below R (suc d) (mono R c d)
-  unfolding mono
-  mono-below c zero = below-const L c
-  mono-below c (suc d) = below-cons L 𝟘 (mono-below c d)
-
-  mono-mul : (c : Car) (d : ℕ) (f : Seq R) (i : ℕ) → mulS R (mono R c d) f i ≡ c ⊗ delay R d f i
-  unfolding mono delay consS
-  mono-mul c zero f i = ap (λ (g : Seq R). g i) (mul-const L c f) ∙ scaleS-at R c f i
-  mono-mul c (suc d) f zero = mulS-zero R (consS R 𝟘 (mono R c d)) f ∙ zero-mul L _ ∙ sym (mul-zero L c)
-  mono-mul c (suc d) f (suc i) = mulS-suc R (consS R 𝟘 (mono R c d)) f i ∙ ap₂ _⊕_ (zero-mul L _) (mono-mul c d f i) ∙ zero-add L _
-
   pub times-mono : (c : Car) (d : ℕ) (Q : Curve R) (j i : ℕ) → times R (mono R c d) Q j i ≡ c ⊗ delay R d (Q j) i
   unfolding scaleS
-  times-mono c d Q j i = mono-mul c d (Q j) i
+  times-mono c d Q j i = mono-mul L c d (Q j) i
 
   module _ (a : ℕ) (P : Curve R) (c : Car) (b : ℕ) (Q : Curve R) where
     pub cross-at : (j i : ℕ) → cross R a P c b Q j i ≡ delay R a (P j) i ⊕ ⊖ (c ⊗ delay R b (Q j) i)

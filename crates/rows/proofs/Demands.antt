@@ -34,7 +34,8 @@ use Rattle.rows.specs.declared.Started.{Started}
 use Rattle.rows.specs.declared.Turned.{Turned}
 use Rattle.rows.specs.declared.Finished.{Finished}
 use Rattle.rows.proofs.Leads.{lead-unique, lead-light}
-use Rattle.rows.proofs.Crossing.{delay-zero, times-mono}
+use Rattle.rows.proofs.Monomials.{delay-zero}
+use Rattle.rows.proofs.Crossing.{times-mono}
 use Rattle.rows.proofs.Runs.{run-then, allowed-then}
 use Rattle.rows.proofs.Formula.{formula-is}
 use Rattle.rows.proofs.Places.{holds-bytes}

@@ -15,7 +15,8 @@ use Rattle.rows.specs.Entry.{Sound}
 use Rattle.rows.specs.Runs.{Promised}
 use Rattle.rows.specs.Finish.{Lightest, monic}
 use Rattle.rows.proofs.Leads.{ZeroOrLeads, under-step, lead-unique, lead-smaller}
-use Rattle.rows.proofs.Crossing.{delay-zero, mono-below, times-mono}
+use Rattle.rows.proofs.Monomials.{delay-zero, mono-below}
+use Rattle.rows.proofs.Crossing.{times-mono}
 use Rattle.rows.proofs.Spans.{span-row, span-add, span-times, span-neg}
 use Rattle.rows.proofs.OwnPowers.{Led, span-led, span-lead}
 

@@ -1,5 +1,6 @@
 pub mod Leads
 pub mod Put
+pub mod Monomials
 pub mod Crossing
 pub mod Spans
 pub mod Updates

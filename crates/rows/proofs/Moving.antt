@@ -12,13 +12,12 @@ use Rattle.field.specs.Ring.{RingLaws}
 use Rattle.field.specs.Symbols.{Listed, symbol, symbols, sumOf, productOf, negativeOf}
 use Rattle.field.specs.Kernels.{subtracted, scaled}
 use Rattle.field.proofs.RingLaws.{add-zero, mul-zero, neg-zero}
-use Rattle.field.proofs.RingTactic.{ring}
 use Rattle.field.proofs.SymbolLaws.{symbols-field}
 use Rattle.field.proofs.KernelLaws.{subtracted-outside, subtracted-symbol, subtracted-below, scaled-outside, scaled-below}
 use Rattle.rows.specs.Curves.{Curve}
 use Rattle.rows.specs.Bytes.{slot, curveBytes}
 use Rattle.rows.specs.declared.Shape.{Shape}
-use Rattle.rows.proofs.Crossing.{delay, delay-at, delay-null}
+use Rattle.rows.proofs.Monomials.{delay, delay-at, delay-null}
 use Rattle.rows.proofs.Places.{slot-inside}
 
 -- the curve Q stands in the bytes from `at` on

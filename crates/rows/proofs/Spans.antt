@@ -16,7 +16,8 @@ use Rattle.poly.proofs.Bounds.{below-add, below-mul, below-const}
 use Rattle.rows.specs.Curves.{Curve, times, Span, Same}
 use Rattle.rows.specs.Turns.{put, mono, cross}
 use Rattle.rows.proofs.Put.{put-same, put-other}
-use Rattle.rows.proofs.Crossing.{delay, delay-zero, mono-below, times-mono, cross-at}
+use Rattle.rows.proofs.Monomials.{delay, delay-zero, mono-below}
+use Rattle.rows.proofs.Crossing.{times-mono, cross-at}
 
 module _ (R : Ring) (n : ℕ) where
   pub same-refl : (rows : ℕ → Curve R) → Same R n rows rows

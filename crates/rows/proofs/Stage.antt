@@ -14,7 +14,8 @@ use Rattle.rows.specs.Turns.{Due, ratio, update}
 use Rattle.rows.specs.Entry.{Sound}
 use Rattle.rows.specs.Runs.{Fresh}
 use Rattle.rows.proofs.Leads.{Smaller, ZeroOrLeads, under-smaller, lead-unique, lead?}
-use Rattle.rows.proofs.Crossing.{delay, delay-at, delay-null, cross-at}
+use Rattle.rows.proofs.Monomials.{delay, delay-at, delay-null}
+use Rattle.rows.proofs.Crossing.{cross-at}
 use Rattle.rows.proofs.Updates.{Swapped, update-r, update-s, update-other, update-smaller, update-led}
 use Rattle.rows.proofs.Entry.{sound-below}
 

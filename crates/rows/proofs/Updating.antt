@@ -21,7 +21,8 @@ use Rattle.rows.specs.Turns.{cross, ratio, update}
 use Rattle.rows.specs.Bytes.{slot, curveBytes, rowsBytes, place, within, rowsOf, Holds, Untouched}
 use Rattle.rows.specs.Work.{Crosses, Exchanges, Exchanged}
 use Rattle.rows.specs.declared.Shape.{Shape}
-use Rattle.rows.proofs.Crossing.{delay, delay-zero, cross-at}
+use Rattle.rows.proofs.Monomials.{delay, delay-zero}
+use Rattle.rows.proofs.Crossing.{cross-at}
 use Rattle.rows.proofs.Updates.{Swapped, update-r, update-s, update-other}
 use Rattle.rows.proofs.Places.{block-end, row-end, slot-inside, place-apart, place-below, rowsOf-at, holds-own}
 use Rattle.rows.proofs.Moving.{Stands, Light, subtracted-curve, subtracted-elsewhere, subtracted-keeps, scaled-keeps}

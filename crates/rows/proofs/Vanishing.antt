@@ -22,7 +22,8 @@ use Rattle.rows.specs.Turns.{cross, ratio, update}
 use Rattle.rows.specs.Bytes.{slot, curveBytes, within, rowsOf}
 use Rattle.rows.specs.Work.{Bytes, Crosses, delayedByte, SlotVanishes}
 use Rattle.rows.specs.declared.Shape.{Shape}
-use Rattle.rows.proofs.Crossing.{delay, delay-at, delay-null, cross-at, cross-null}
+use Rattle.rows.proofs.Monomials.{delay, delay-at, delay-null}
+use Rattle.rows.proofs.Crossing.{cross-at, cross-null}
 use Rattle.rows.proofs.Updates.{update-r, update-under}
 use Rattle.rows.proofs.Places.{slot-end, row-end, rowsOf-at, rowsOf-boxed}
 use Rattle.rows.proofs.CrossedRows.{due, crosses-w, crosses-v}
