@@ -9,7 +9,6 @@ use native.Mathlib.Decide.{ℕ-discrete, decLt}
 use native.Mathlib.Omega.{arith}
 use lib.ListN.{length, getD, take}
 use lib.Seq.{ext-getD, getD-take, length-take-le}
-use Rattle.field.specs.Ring.{Ring}
 use Rattle.field.specs.Field.{FieldLaws}
 use Rattle.field.specs.Symbols.{symbols}
 use Rattle.field.proofs.SymbolLaws.{byte-symbol, symbols-field}
@@ -31,7 +30,7 @@ use Rattle.rows.specs.declared.Started.{Started}
 use Rattle.rows.specs.declared.Turned.{Turned}
 use Rattle.rows.specs.declared.Finished.{Finished}
 use Rattle.rows.proofs.Leads.{lead-unique}
-use Rattle.rows.proofs.Least.{monic-lead}
+use Rattle.rows.proofs.Least.{monic-lead, weight-unique}
 use Rattle.rows.proofs.Turns.{turn-determined, turn-keeps}
 use Rattle.rows.proofs.StartRows.{start-fresh}
 use Rattle.rows.proofs.Places.{in-curve}
@@ -69,13 +68,6 @@ module _ (q : Request) where
     pub long : length bytes ≡ curveBytes (shapeFor q)
     pub holds : HoldsCurve (shapeFor q) bytes (monic (symbols (q .p)) (q .k - 1) weight row (left (startFor h) row))
     pub top : getD bytes (q .l * slot (shapeFor q) + 0) 0 ≢ 0
-
--- two smallest curves of a set weigh the same
-pub smallest-weights : {R : Ring} {u : ℕ} {M : Curve R → Type 0} {P Q : Curve R} (p : Smallest R u M P) (q : Smallest R u M Q) → p .weight ≡ q .weight
-smallest-weights {P = P} {Q} p q =
-    let a = p .least Q (q .member) (q .weight) (q .power) (q .lead) .0 in
-    let b = q .least P (p .member) (p .weight) (p .power) (p .lead) .0 in
-    omega arith
 
 module _ {q : Request} {lent : List ℕ} (known : Accepted (q .p) (q .points) (q .word) (q .k) (q .m) (q .l) lent) {made row weight : ℕ} {bytes : List ℕ} (z : Worked q made row weight bytes) where
   abbrev start : ℕ → Curve (ringFor q)
@@ -192,6 +184,6 @@ module _ {q : Request} (c : Calls q) (ok : c .start .number ≡ 0) where
         record {
           start = started-same ok (c .starts .note ok);
           turn = turned;
-          finish = finished-same (calls-hand .done) (calls-hand .weight ∙ smallest-weights (calls-hand .smallest) smallest ∙ worked-smallest calls-accepted z .1) (height (rw same at (calls-hand .height)));
+          finish = finished-same (calls-hand .done) (calls-hand .weight ∙ weight-unique (calls-hand .smallest) smallest ∙ worked-smallest calls-accepted z .1) (height (rw same at (calls-hand .height)));
           curve = let r = c .curve-room in let l = c .finishes .rest .long in curve-bytes (shapeFor q) (curveFor calls-accepted z) (c .curve) bytes (omega arith) (z .long) (rw same at (calls-hand .bytes)) (z .holds);
         }

@@ -12,6 +12,7 @@ use Rattle.poly.specs.Polynomials.{Seq, value}
 use Rattle.poly.specs.Encode.{symbolsOf}
 use Rattle.poly.proofs.Evaluation.{value-more}
 use Rattle.poly.proofs.TableLaws.{first-determined}
+use Rattle.rows.proofs.Least.{weight-unique}
 use Rattle.near.specs.Lists.{Task, task, one, polynomial, In, agreements, Wanted}
 use Rattle.near.specs.Job.{workingRoom, listTable, refusal, RuleUpdates, Answers, HasListed}
 use Rattle.near.specs.declared.Near.{Near}
@@ -20,7 +21,7 @@ use Rattle.near.proofs.Agreements.{agrees?, agreements-zero, agreements-suc}
 use Rattle.figures.specs.Figures.{three, atThree, word-0-0-1, ListGives}
 use Rattle.figures.proofs.Computed.{seven-laws, at-places, at-three}
 use Rattle.figures.proofs.Numbers.{list-goes}
-use Rattle.figures.proofs.Calls.{smallest-weights, startFor, worked-smallest}
+use Rattle.figures.proofs.Calls.{startFor, worked-smallest}
 use Rattle.figures.proofs.Word001.{h, h-is, formula-is-one, worked-0-0-1}
 
 -- n agreements at n places are one at each
@@ -75,7 +76,7 @@ told {t} {room} {before = before} some most large long listed =
     let known = at-three word-0-0-1 room {m = 1} refl tt (omega arith) (omega arith) (omega arith) in
     let entry = first-determined (listTable 7 three word-0-0-1 2 1 1 t room before) (listed .entry) 0 (listed .first) (list-goes known t room before some most large (omega arith)) in
     let s = worked-smallest known worked-0-0-1 in
-    (listed .answers entry, smallest-weights (listed .answers entry .smallest) (s .0) ∙ s .1)
+    (listed .answers entry, weight-unique (listed .answers entry .smallest) (s .0) ∙ s .1)
 
 -- the rule makes one update
 rule : RuleUpdates 7 three word-0-0-1 2 1 1 1

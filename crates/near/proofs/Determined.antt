@@ -7,7 +7,6 @@ use native.Mathlib.Decide.{ℕ-discrete, decLt}
 use native.Mathlib.Omega.{arith}
 use lib.ListN.{length, getD}
 use lib.Seq.{ext-getD, getD-take}
-use Rattle.field.specs.Ring.{Ring}
 use Rattle.field.specs.Symbols.{symbols}
 use Rattle.field.proofs.SymbolLaws.{symbols-field}
 use Rattle.poly.specs.Encode.{symbolsOf}
@@ -16,22 +15,16 @@ use Rattle.poly.proofs.TableLaws.{first-determined}
 use Rattle.poly.proofs.Places.{distinct-apart}
 use Rattle.poly.proofs.Interpolation.{interpolant-unique}
 use Rattle.poly.proofs.Interpolating.{places-distinct}
-use Rattle.rows.specs.Curves.{Curve, Smallest}
 use Rattle.rows.specs.Turns.{Outcome}
 use Rattle.rows.specs.Bytes.{Untouched}
 use Rattle.rows.proofs.Ends.{end-determined}
+use Rattle.rows.proofs.Least.{weight-unique}
 use Rattle.near.specs.Lists.{task}
 use Rattle.near.specs.Job.{workingRoom, listTable, refusal, RuleUpdates, Lists, Answers, HasListed}
 use Rattle.near.specs.declared.Near.{Near}
 use Rattle.near.proofs.Messages.{symbols-numbered}
 use Rattle.near.proofs.Lists.{list-unique}
 use Rattle.near.proofs.Listing.{list-taken}
-
-weight-unique : {R : Ring} {u : ℕ} {Member : Curve R → Type 0} {P Q : Curve R} (s : Smallest R u Member P) (r : Smallest R u Member Q) → s .weight ≡ r .weight
-weight-unique {P = P} {Q} s r =
-    let a = s .least Q (r .member) (r .weight) (r .power) (r .lead) .0 in
-    let b = r .least P (s .member) (s .weight) (s .power) (s .lead) .0 in
-    omega arith
 
 -- bytes of which the first ones are given, and the others as they were
 bytes-unique : (size : ℕ) {before after also : List ℕ} → Untouched size before after → Untouched size before also → ((q : ℕ) → q < size → getD after q 0 ≡ getD also q 0) → after ≡ also

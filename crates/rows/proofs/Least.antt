@@ -48,6 +48,13 @@ module _ {R : Ring} {u : ℕ} {rows : ℕ → Curve R} {n i w v : ℕ} (x : Ligh
   pub lightest-stays : w ≤ v → Lightest R u (suc n) rows i w
   lightest-stays h = let k = x .inside in record { inside = omega arith; lead = x .lead; least = least-more i w (h, λ f. omega arith) (x .least) }
 
+-- two smallest curves of a set weigh the same
+pub weight-unique : {R : Ring} {u : ℕ} {Member : Curve R → Type 0} {P Q : Curve R} (p : Smallest R u Member P) (q : Smallest R u Member Q) → p .weight ≡ q .weight
+weight-unique {P = P} {Q} p q =
+    let a = p .least Q (q .member) (q .weight) (q .power) (q .lead) .0 in
+    let b = q .least P (p .member) (p .weight) (p .power) (p .lead) .0 in
+    omega arith
+
 module _ {F : Field} (Φ : FieldLaws F) where
   abbrev R : Ring
   R = F .ring

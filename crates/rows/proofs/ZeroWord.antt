@@ -1,6 +1,6 @@
 -- For the all-zero word h is 0, so e^(m-t) divides the coefficient of y^t of every curve of demand 2. As e has degree n > u, no such
 -- curve has a smaller leading term than y^m.
-use mathlib.Core.Path.{_≡_, sym, ap, _∙_}
+use mathlib.Core.Path.{_≡_, sym, ap, _∙_, refl}
 use Prim.Native.Nat.{ℕ, suc, _+_, _-_, _*_, _≤_, _<_, min}
 use native.Mathlib.Nat.{sub-self, mul-le-mul-left}
 use native.Mathlib.Omega.{arith}
@@ -98,3 +98,7 @@ module _ {F : Field} (Φ : FieldLaws F) where
             let both : m ≡ m - t + t = omega arith in
             let g = ap (λ (x : ℕ). u * x) both in
             (omega arith, λ r. absurd (omega arith))
+
+    pub zero-word-weight : smallest-zero-word .weight ≡ u * m
+    unfolding smallest-zero-word
+    zero-word-weight = refl
