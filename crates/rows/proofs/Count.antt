@@ -2,7 +2,7 @@
 -- So P at the beginning, r times, bounds the updates while row r is the current one. An account adds this up over the rows: each update draws on it.
 use mathlib.Core.Path.{_≡_, refl, ap}
 use mathlib.Core.Logic.{_⊎_, inl, inr}
-use Prim.Native.Nat.{ℕ, zero, suc, _+_, _-_, _*_, _≤_, _<_}
+use Prim.Native.Nat.{ℕ, suc, _+_, _-_, _*_, _≤_, _<_}
 use native.Mathlib.Omega.{arith}
 use native.Mathlib.Nat.{mul-le-mul}
 use native.Mathlib.Decide.{decLe}
@@ -14,18 +14,10 @@ use Rattle.rows.specs.Turns.{Due, update, Outcome, Turn, finished, rises
 use Rattle.rows.specs.Entry.{Sound}
 use Rattle.rows.specs.Runs.{Fresh}
 use Rattle.rows.proofs.Leads.{lead-unique, lead-nonzero, lead-within, lead-light}
+use Rattle.rows.proofs.Formula.{total-le}
 use Rattle.rows.proofs.Updates.{update-other}
 use Rattle.rows.proofs.Entry.{sound-rises, sound-below, sound-update}
 use Rattle.rows.proofs.Stage.{Stage, stage-begins, stage-next, stage-potential}
-
-total-mono : (n m : ℕ) (f : ℕ → ℕ) → n ≤ m → total n f ≤ total m f
-unfolding total
-total-mono n zero f h = let e : n ≡ zero = omega arith in rw e (omega arith)
-total-mono n (suc m) f h = go (decLe n m) (total-mono n m f)
-  where
-    go : Dec (n ≤ m) → (n ≤ m → total n f ≤ total m f) → total n f ≤ total (suc m) f
-    go (yes k) more = let x = more k in omega arith
-    go (no k) more = let e : n ≡ suc m = omega arith in rw e (omega arith)
 
 -- what the rows 1 to r may cost
 abbrev pub cost : (ℕ → ℕ) → ℕ → ℕ
@@ -112,7 +104,7 @@ module _ {F : Field} (Φ : FieldLaws F) where
             let k = sound-below (g .sound) d in
             let q = x .potential in
             let pos = stage-potential (x .stage) .1 k in
-            account-open (x .account) k (omega arith) (total-mono r l (λ i. i * b i) (d .inside))
+            account-open (x .account) k (omega arith) (total-le r l (λ i. i * b i) (d .inside))
 
         good-next : (Zero R (update F u r w s v rows r) → ⊥) × Good R u W l b r (left - 1) (update F u r w s v rows)
         good-next =

@@ -45,7 +45,7 @@ formula-is n k m l ml =
     high : (r : ℕ) → r ≤ l - m → f (m + r) ≡ (n - k) * m * (m + r)
     high r le = let e : min (m + r) m ≡ m = omega arith in rw e (omega arith)
 
-total-le : (a b : ℕ) (f : ℕ → ℕ) → a ≤ b → total a f ≤ total b f
+pub total-le : (a b : ℕ) (f : ℕ → ℕ) → a ≤ b → total a f ≤ total b f
 unfolding total
 total-le a zero f h = let e : a ≡ 0 = omega arith in rw e (omega arith)
 total-le a (suc b) f h = go (decLe a b) (λ k. total-le a b f k)
