@@ -5,12 +5,14 @@ use mathlib.Core.List.{List}
 use Prim.Native.Nat.{ℕ, suc, _*_, _≤_, _<_}
 use native.Mathlib.Omega.{arith}
 use lib.ListN.{length}
+use borrow.Author.Needs.{needs}
 use Rattle.field.specs.Symbols.{Listed, listed}
 use Rattle.poly.specs.Table.{First, BadCount, BadDegree, TooLarge}
 use Rattle.poly.specs.Buffers.{AllBelow}
 use Rattle.poly.specs.Encode.{encodeTable}
-use Rattle.poly.proofs.TableLaws.{first-determined}
+use Rattle.poly.proofs.TableLaws.{first-determined, first-goes}
 use Rattle.rows.specs.Jobs.{startTable, BadHeights}
+use Rattle.rows.specs.Work.{requestTable}
 use Rattle.rows.proofs.Accepted.{Accepted}
 use Rattle.near.specs.Job.{workingRoom, listTable}
 use Rattle.near.specs.declared.Near.{Near}
@@ -40,8 +42,9 @@ module _ {p : ℕ} {points word : List ℕ} {k m l : ℕ} {lent : List ℕ} (a :
   good-heights (inr (inr (inl h))) = omega (arith, a .heights)
   good-heights (inr (inr (inr h))) = omega (arith, a .heights)
 
-  pub start-goes : First (startTable p points word k m l lent) 0
-  start-goes =
+  -- the seven lines that both tables begin with
+  request-goes : First (requestTable p points word k m l) 0
+  request-goes =
       (λ n. n (a .places .size))
       ⊳ good-count (a .some) (a .places .count)
       ⊳ (λ n. n (a .places .same))
@@ -49,22 +52,16 @@ module _ {p : ℕ} {points word : List ℕ} {k m l : ℕ} {lent : List ℕ} (a :
       ⊳ good-heights
       ⊳ ⊎-elim (none-large (a .places .points-below)) (none-large (a .places .word-below))
       ⊳ a .places .different
-      ⊳ (λ h. let r = a .room in omega arith)
       ⊳ refl
+
+  pub start-goes : First (startTable p points word k m l lent) 0
+  start-goes = first-goes 7 (startTable p points word k m l lent) 0 (search needs) request-goes ((λ h. let r = a .room in omega arith) ⊳ refl)
 
   pub list-goes : (t : ℕ) (room messages : List ℕ) → 1 ≤ t → t ≤ length points → workingRoom ≤ length room → l * k ≤ length messages
       → First (listTable p points word k m l t room messages) 0
   list-goes t room messages low high large long =
-      (λ n. n (a .places .size))
-      ⊳ good-count (a .some) (a .places .count)
-      ⊳ (λ n. n (a .places .same))
-      ⊳ good-degree (a .low) (a .degree)
-      ⊳ good-heights
-      ⊳ ⊎-elim (none-large (a .places .points-below)) (none-large (a .places .word-below))
-      ⊳ a .places .different
-      ⊳ ⊎-elim (λ h. omega arith) (λ h. omega arith)
-      ⊳ ⊎-elim (λ h. omega arith) (λ h. omega arith)
-      ⊳ refl
+      first-goes 7 (listTable p points word k m l t room messages) 0 (search needs) request-goes
+      (⊎-elim (λ h. omega arith) (λ h. omega arith) ⊳ ⊎-elim (λ h. omega arith) (λ h. omega arith) ⊳ refl)
 
 encode-gives : {p : ℕ} {points : List ℕ} {k : ℕ} (n : ℕ) → ((message lent : List ℕ) → length message ≡ k → First (encodeTable p points message lent) (suc n)) → EncodeGives (suc n) p points k
 encode-gives {p} {points} n table message before after given long e = first-determined (encodeTable p points message before) given (suc n) (e .first) (table message before long)

@@ -8,6 +8,7 @@ use Prim.Native.Nat.{ℕ, zero, suc, _-_, _*_, _≤_, _<_, zero-le}
 use native.Mathlib.Decide.{decLe, ℕ-discrete}
 use native.Mathlib.Omega.{arith}
 use lib.ListN.{length}
+use borrow.Author.Needs.{needs}
 use Rattle.field.specs.Symbols.{symbols}
 use Rattle.field.specs.Ring.{Ring}
 use Rattle.field.specs.Field.{FieldLaws}
@@ -15,7 +16,7 @@ use Rattle.field.proofs.SymbolLaws.{symbols-field, symbol-byte, byte-below}
 use Rattle.poly.specs.Polynomials.{locator}
 use Rattle.poly.specs.Encode.{symbolsOf}
 use Rattle.poly.specs.Table.{First, NotListed, BadCount, BadDegree}
-use Rattle.poly.proofs.TableLaws.{first-determined, first-past}
+use Rattle.poly.proofs.TableLaws.{first-determined, first-passed, passed-first}
 use Rattle.poly.proofs.Interpolation.{interpolate}
 use Rattle.poly.proofs.Interpolating.{places-distinct}
 use Rattle.rows.specs.Bytes.{shape, curveBytes, rowsOf, Untouched}
@@ -58,23 +59,14 @@ pub record Taken (p : ℕ) (points word : List ℕ) (k m l t : ℕ) (room messag
 
 pub list-taken : (p : ℕ) (points word : List ℕ) (k m l t : ℕ) (room messages : List ℕ) → First (listTable p points word k m l t room messages) 0 → Taken p points word k m l t room messages
 list-taken p points word k m l t room messages first =
-    let listed = first-past first (λ e. omega arith) in
-    let counted = first-past (listed .1) (λ e. omega arith) in
-    let spelt = first-past (counted .1) (λ e. omega arith) in
-    let low = first-past (spelt .1) (λ e. omega arith) in
-    let high = first-past (low .1) (λ e. omega arith) in
-    let large = first-past (high .1) (λ e. omega arith) in
-    let repeated = first-past (large .1) (λ e. omega arith) in
-    let wanted = first-past (repeated .1) (λ e. omega arith) in
-    let short = first-past (wanted .1) (λ e. omega arith) in
-    let few : t < 1 → ⊥ = λ h. wanted .0 (inl h) in
-    let many : length points < t → ⊥ = λ h. wanted .0 (inr h) in
-    let narrow : length room < workingRoom → ⊥ = λ h. short .0 (inl h) in
-    let tight : length messages < l * k → ⊥ = λ h. short .0 (inr h) in
-    let fine = good-fine (good-note {note = note} (good (listed .0) (counted .0) (low .0) (high .0))) in
+    let (listed, (counted, (spelt, (low, (high, (large, (repeated, (wanted, (short, _))))))))) = first-passed (listTable p points word k m l t room messages) (search needs) first refl in
+    let few : t < 1 → ⊥ = λ h. wanted (inl h) in
+    let many : length points < t → ⊥ = λ h. wanted (inr h) in
+    let narrow : length room < workingRoom → ⊥ = λ h. short (inl h) in
+    let tight : length messages < l * k → ⊥ = λ h. short (inr h) in
+    let fine = good-fine (good-note {note = note} (good listed counted low high)) in
     let room-enough = rows-small fine in
-    let start : First (startTable p points word k m l room) 0 =
-    inr (listed .0, inr (counted .0, inr (spelt .0, inr (low .0, inr (high .0, inr (large .0, inr (repeated .0, inr (λ h. omega arith, refl)))))))) in
+    let start = passed-first (startTable p points word k m l room) (listed, (counted, (spelt, (low, (high, (large, (repeated, ((λ h. omega arith), tt)))))))) in
     record { start = start; accepted = start-accepted start refl; some = omega arith; most = omega arith; working = omega arith; enough = omega arith }
   where
     note : Note

@@ -8,11 +8,12 @@ use native.Mathlib.Omega.{arith}
 use lib.ListN.{length, getD, set, length-set}
 use lib.Seq.{ext-getD, getD-set-same, getD-set-other}
 use borrow.Author.Count.{below-more}
+use borrow.Author.Needs.{needs}
 use Rattle.field.specs.Symbols.{Listed}
 use Rattle.poly.specs.Table.{First}
 use Rattle.poly.specs.Encode.{valueAt, encodeTable, Encoded}
 use Rattle.poly.specs.Buffers.{AllBelow}
-use Rattle.poly.proofs.TableLaws.{first-determined, first-past, listed-passed, below-passed}
+use Rattle.poly.proofs.TableLaws.{first-determined, first-passed, listed-passed, below-passed}
 
 module _ {p : ℕ} {points message before : List ℕ} where
   -- two outcomes of encode for the same arguments are the same
@@ -37,19 +38,9 @@ pub record Accepted (p : ℕ) (points message word : List ℕ) : Type 0 where
   pub room : length points ≤ length word
 
 pub accepted : {p : ℕ} {points message word : List ℕ} {n : ℕ} → First (encodeTable p points message word) n → n ≡ 0 → Accepted p points message word
-accepted first z =
-    let size = first-past first (λ e. omega arith) in
-    let count = first-past (size .1) (λ e. omega arith) in
-    let degree = first-past (count .1) (λ e. omega arith) in
-    let large = first-past (degree .1) (λ e. omega arith) in
-    let repeated = first-past (large .1) (λ e. omega arith) in
-    let short = first-past (repeated .1) (λ e. omega arith) in
-    record {
-      size = listed-passed (size .0);
-      points-below = below-passed (λ t. large .0 (inl t));
-      message-below = below-passed (λ t. large .0 (inr t));
-      room = let h = short .0 in omega arith;
-    }
+accepted {p} {points} {message} {word} first z =
+    let (size, (count, (degree, (large, (repeated, (short, _)))))) = first-passed (encodeTable p points message word) (search needs) first z in
+    record { size = listed-passed size; points-below = below-passed (λ t. large (inl t)); message-below = below-passed (λ t. large (inr t)); room = omega arith }
 
 -- the word after s places: the first s bytes are values, and the rest is as it was
 pub record Written (p : ℕ) (points message before : List ℕ) (s : ℕ) (after : List ℕ) : Type 0 where

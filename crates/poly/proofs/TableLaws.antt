@@ -1,6 +1,6 @@
 -- A table fixes the number that it gives; and what is known where a refusal does not apply.
 use mathlib.Core.Path.{_≡_, refl, sym, subst, _∙_}
-use mathlib.Core.Logic.{_⊎_, inl, inr}
+use mathlib.Core.Logic.{inl, inr}
 use mathlib.Core.Bool.{Bool, true, false, true≢false}
 use mathlib.Core.List.{List, [], _∷_}
 use Prim.Native.Nat.{ℕ, zero, suc, _<_}
@@ -20,10 +20,23 @@ first-determined (x ∷ rest) m n (inl (here, e)) (inr (not, f)) = absurd (not h
 first-determined (x ∷ rest) m n (inr (not, g)) (inl (here, d)) = absurd (not here)
 first-determined (x ∷ rest) m n (inr (not, g)) (inr (nor, f)) = first-determined rest m n g f
 
--- a table's first refusal, where another number is given: it does not apply, and the rest of the table gives the number
-pub first-past : {Applies Rest : Type 0} {n number : ℕ} → (Applies × (n ≡ number)) ⊎ ((Applies → ⊥) × Rest) → (n ≡ number → ⊥) → (Applies → ⊥) × Rest
-first-past (inl (here, e)) other = absurd (other e)
-first-past (inr (not, f)) other = (not, f)
+abbrev pub Numbered : List Refusal → Type 0
+Numbered [] = Unit
+Numbered (x ∷ rest) = (0 < x .number) × Numbered rest
+
+-- a table gives 0 exactly where none of its refusals applies
+abbrev pub Passed : List Refusal → Type 0
+Passed [] = Unit
+Passed (x ∷ rest) = (x .applies → ⊥) × Passed rest
+
+pub first-passed : (table : List Refusal) {number : ℕ} → Numbered table → First table number → number ≡ 0 → Passed table
+first-passed [] k f z = tt
+first-passed (x ∷ rest) k (inl (here, e)) z = let h = k .0 in absurd (omega arith)
+first-passed (x ∷ rest) k (inr (not, f)) z = (not, first-passed rest (k .1) f z)
+
+pub passed-first : (table : List Refusal) → Passed table → First table 0
+passed-first [] n = refl
+passed-first (x ∷ rest) (not, n) = inr (not, passed-first rest n)
 
 -- a table's first n refusals give a number, which is the table's; or they give 0, and then the rest of it does
 pub first-stops : (n : ℕ) (table : List Refusal) (number : ℕ) → First (take n table) number → (number ≡ 0 → ⊥) → First table number
@@ -31,10 +44,6 @@ first-stops zero table number e other = absurd (other e)
 first-stops (suc n) [] number e other = e
 first-stops (suc n) (x ∷ rest) number (inl h) other = inl h
 first-stops (suc n) (x ∷ rest) number (inr (not, f)) other = inr (not, first-stops n rest number f other)
-
-abbrev pub Numbered : List Refusal → Type 0
-Numbered [] = Unit
-Numbered (x ∷ rest) = (0 < x .number) × Numbered rest
 
 pub first-goes : (n : ℕ) (table : List Refusal) (number : ℕ) → Numbered (take n table) → First (take n table) 0 → First (drop n table) number → First table number
 first-goes zero table number k f g = g

@@ -1,17 +1,18 @@
 -- What is known of a request that start accepts.
 use mathlib.Core.Path.{_≡_}
-use mathlib.Core.Logic.{_⊎_, inl, inr}
+use mathlib.Core.Logic.{inl, inr}
 use mathlib.Core.List.{List}
 use mathlib.Core.HLevel.{dec→stable}
 use Prim.Native.Nat.{ℕ, _≤_, _<_}
 use native.Mathlib.Decide.{ℕ-discrete}
 use native.Mathlib.Omega.{arith}
 use lib.ListN.{length}
-use Rattle.poly.specs.Table.{First, NotListed, BadCount, BadDegree, TooLarge, Repeated}
+use borrow.Author.Needs.{needs}
+use Rattle.poly.specs.Table.{First}
 use Rattle.poly.specs.Buffers.{Places}
-use Rattle.poly.proofs.TableLaws.{first-past, listed-passed, below-passed}
+use Rattle.poly.proofs.TableLaws.{listed-passed, below-passed, Passed, first-passed}
 use Rattle.rows.specs.Bytes.{shape, rowsBytes}
-use Rattle.rows.specs.Jobs.{startTable, BadHeights}
+use Rattle.rows.specs.Jobs.{startTable}
 use Rattle.rows.specs.Work.{requestTable}
 use Rattle.rows.proofs.Notes.{GoodHeights, good-heights, GoodNote}
 
@@ -33,10 +34,8 @@ module _ (p : ℕ) (points word : List ℕ) (k m l : ℕ) where
     pub room : rowsBytes (shape p (length points) k m l) ≤ length rows
 
 module _ {p : ℕ} {points word : List ℕ} {k m l : ℕ} where
-  -- seven refusals that do not apply
-  requested : (NotListed p → ⊥) → (BadCount p (length points) → ⊥) → ((length word ≡ length points → ⊥) → ⊥) → (BadDegree (length points) k → ⊥) → (BadHeights m l → ⊥)
-      → (TooLarge p points ⊎ TooLarge p word → ⊥) → (Repeated points → ⊥) → Requested p points word k m l
-  requested size count spelt degree heights large repeated =
+  requested : Passed (requestTable p points word k m l) → Requested p points word k m l
+  requested (size, (count, (spelt, (degree, (heights, (large, (repeated, _))))))) =
       let few : length points < 3 → ⊥ = λ h. count (inl h) in
       let many : p < length points → ⊥ = λ h. count (inr h) in
       let constant : k < 2 → ⊥ = λ h. degree (inl h) in
@@ -58,36 +57,14 @@ module _ {p : ℕ} {points word : List ℕ} {k m l : ℕ} where
       }
 
   pub request-accepted : {number : ℕ} → First (requestTable p points word k m l) number → number ≡ 0 → Requested p points word k m l
-  request-accepted first z =
-      let size = first-past first (λ e. omega arith) in
-      let count = first-past (size .1) (λ e. omega arith) in
-      let spelt = first-past (count .1) (λ e. omega arith) in
-      let degree = first-past (spelt .1) (λ e. omega arith) in
-      let heights = first-past (degree .1) (λ e. omega arith) in
-      let large = first-past (heights .1) (λ e. omega arith) in
-      let repeated = first-past (large .1) (λ e. omega arith) in
-      requested (size .0) (count .0) (spelt .0) (degree .0) (heights .0) (large .0) (repeated .0)
+  request-accepted first z = requested (first-passed (requestTable p points word k m l) (search needs) first z)
 
 module _ {p : ℕ} {points word : List ℕ} {k m l : ℕ} {rows : List ℕ} where
   pub start-accepted : {number : ℕ} → First (startTable p points word k m l rows) number → number ≡ 0 → Accepted p points word k m l rows
   start-accepted first z =
-      let size = first-past first (λ e. omega arith) in
-      let count = first-past (size .1) (λ e. omega arith) in
-      let spelt = first-past (count .1) (λ e. omega arith) in
-      let degree = first-past (spelt .1) (λ e. omega arith) in
-      let heights = first-past (degree .1) (λ e. omega arith) in
-      let large = first-past (heights .1) (λ e. omega arith) in
-      let repeated = first-past (large .1) (λ e. omega arith) in
-      let short = first-past (repeated .1) (λ e. omega arith) in
-      let r : Requested p points word k m l = requested (size .0) (count .0) (spelt .0) (degree .0) (heights .0) (large .0) (repeated .0) in
-      record {
-        places = r .places;
-        some = r .some;
-        low = r .low;
-        degree = r .degree;
-        heights = r .heights;
-        room = let h = short .0 in omega arith;
-      }
+      let (size, (count, (spelt, (degree, (heights, (large, (repeated, (short, _)))))))) = first-passed (startTable p points word k m l rows) (search needs) first z in
+      let r : Requested p points word k m l = requested (size, (count, (spelt, (degree, (heights, (large, (repeated, tt))))))) in
+      record { places = r .places; some = r .some; low = r .low; degree = r .degree; heights = r .heights; room = omega arith }
 
   -- the note that start gives is a good one
   pub accepted-note : Accepted p points word k m l rows → GoodNote (record { p = p; n = length points; k = k; m = m; l = l; r = 1 })

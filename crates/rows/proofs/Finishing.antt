@@ -7,10 +7,11 @@ use native.Mathlib.Decide.{ℕ-discrete, decLt}
 use native.Mathlib.Omega.{arith}
 use lib.ListN.{length, getD}
 use lib.Seq.{ext-getD}
+use borrow.Author.Needs.{needs}
 use Rattle.field.specs.Ring.{Ring}
 use Rattle.field.specs.Symbols.{symbols}
 use Rattle.poly.specs.Table.{First}
-use Rattle.poly.proofs.TableLaws.{first-determined, first-past}
+use Rattle.poly.proofs.TableLaws.{first-determined, first-passed}
 use Rattle.rows.specs.Curves.{Curve}
 use Rattle.rows.specs.Finish.{Lightest}
 use Rattle.rows.specs.Bytes.{curveBytes, rowsBytes}
@@ -32,15 +33,12 @@ pub record Finishes (note : Note) (rows curve : List ℕ) : Type 0 where
 
 pub finishes : {note : Note} {rows curve : List ℕ} {n : ℕ} → First (finishTable note rows curve) n → n ≡ 0 → Finishes note rows curve
 finishes {note} {rows} {curve} first z =
-    let bad = first-past first (λ e. omega arith) in
-    let short = first-past (bad .1) (λ e. omega arith) in
-    let early = first-past (short .1) (λ e. omega arith) in
-    let left = first-past (early .1) (λ e. omega arith) in
-    let left = as-left-stable (first-past (early .1) (λ e. omega arith) .0) in
-    let good = good-note (bad .0) in
-    let long : length rows < rowsBytes (shapeOf note) → ⊥ = λ h. short .0 (inl h) in
-    let held : length curve < curveBytes (shapeOf note) → ⊥ = λ h. short .0 (inr h) in
-    let last : note .r ≡ suc (note .l) = let a = good .last in let b = early .0 in omega arith in
+    let (bad, (short, (early, (unstable, _)))) = first-passed (finishTable note rows curve) (search needs) first z in
+    let left = as-left-stable unstable in
+    let good = good-note bad in
+    let long : length rows < rowsBytes (shapeOf note) → ⊥ = λ h. short (inl h) in
+    let held : length curve < curveBytes (shapeOf note) → ⊥ = λ h. short (inr h) in
+    let last : note .r ≡ suc (note .l) = let a = good .last in omega arith in
     record {
       good = good;
       whole = record { bytes = bytes-below (good-fine good) (omega arith) (left .below); sound = rw last at (left .sound) };

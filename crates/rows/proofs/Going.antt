@@ -6,12 +6,13 @@ use mathlib.Core.List.{List}
 use Prim.Native.Nat.{ℕ, suc, _+_, _-_, _≤_, _<_}
 use native.Mathlib.Nat.{add-zero}
 use native.Mathlib.Omega.{arith}
+use borrow.Author.Needs.{needs}
 use Rattle.field.specs.Ring.{Ring}
 use Rattle.field.specs.Field.{Field, FieldLaws}
 use Rattle.field.specs.Symbols.{symbols}
 use Rattle.field.proofs.SymbolLaws.{symbols-field}
 use Rattle.poly.specs.Table.{First}
-use Rattle.poly.proofs.TableLaws.{first-past}
+use Rattle.poly.proofs.TableLaws.{first-passed}
 use Rattle.rows.specs.Curves.{Curve, Zero, Lead}
 use Rattle.rows.specs.Turns.{Outcome, stops, counted, Turn, finished, rises, pauses, updates, halts, update}
 use Rattle.rows.specs.Entry.{Sound}
@@ -47,12 +48,10 @@ pub record Going (S : Shape) (start allowance : ℕ) (before xs : List ℕ) (r l
 
 -- what a turn relies on where no refusal applies
 pub turn-ready : {note : Note} {xs : List ℕ} {n : ℕ} → First (turnTable note xs) n → n ≡ 0 → Ready note xs
-turn-ready first z =
-    let bad = first-past first (λ e. omega arith) in
-    let short = first-past (bad .1) (λ e. omega arith) in
-    let left = as-left-stable (first-past (short .1) (λ e. omega arith) .0) in
-    let long = short .0 in
-    record { good = bad .0; bytes = bytes-below (good-fine (good-note (bad .0))) (omega arith) (left .below); sound = left .sound }
+turn-ready {note} {xs} first z =
+    let (bad, (short, (unstable, _))) = first-passed (turnTable note xs) (search needs) first z in
+    let left = as-left-stable unstable in
+    record { good = bad; bytes = bytes-below (good-fine (good-note bad)) (omega arith) (left .below); sound = left .sound }
 
 pub going-begins : {S : Shape} {note : Note} {xs : List ℕ} (allowance : ℕ) → S ≡ shapeOf note → Ready note xs → Going S (note .r) allowance xs xs (note .r) allowance
 going-begins {S} {note} {xs} allowance is ready = rw is begun
