@@ -137,7 +137,7 @@ module _ {q : Request} (c : Calls q) (ok : c .start .number ≡ 0) where
     fresh = let low = calls-accepted .low in start-fresh (Φ calls-accepted z) (q .m) (z .through) (q .k) (q .l) (omega arith) (calls-accepted .degree) (calls-accepted .heights .order)
 
     at-start : AtStart q (z .h) rows
-    at-start i k = holds-row (shapeFor q) (c .rows) (startFor q (z .h)) (c .starts .rows ok (z .h) (z .through)) i k (λ j e x. fresh i k .height j e (omega arith)) (fresh i k .within)
+    at-start i k = holds-row (shapeFor q) (c .rows) k (startFor q (z .h) i) (λ j e. c .starts .rows ok (z .h) (z .through) i j e k) (λ j e x. fresh i k .height j e (omega arith)) (fresh i k .within)
 
     worked-turn : Turn (symbols (q .p)) (q .k - 1) (q .l) (c .allowance) rows 1 (record { number = 0; rows = z .left rows; row = suc (q .l); updates = made })
     worked-turn = z .turn (c .allowance) (c .enough) rows at-start

@@ -1,19 +1,19 @@
 -- The search's curve in bytes: the byte of each coefficient, and of each coefficient of a slice.
-use mathlib.Core.Path.{_≡_, sym, ap, _∙_, fun-ext}
+use mathlib.Core.Path.{_≡_, ap, _∙_}
 use mathlib.Core.Logic.{inr, inl}
 use mathlib.Core.List.{List}
-use Prim.Native.Nat.{ℕ, suc, _+_, _-_, _*_, _≤_, _<_, zero-le}
+use Prim.Native.Nat.{ℕ, suc, _+_, _-_, _*_, _≤_, _<_}
 use native.Mathlib.Nat.{mul-le-mul}
-use native.Mathlib.Decide.{decLe}
 use native.Mathlib.Omega.{arith}
 use lib.ListN.{length, getD}
 use Rattle.field.specs.Ring.{RingLaws}
 use Rattle.field.specs.Symbols.{symbol, symbols}
-use Rattle.field.proofs.SymbolLaws.{symbol-byte, symbol-own, byte-below, symbols-field, zero-byte}
+use Rattle.field.proofs.SymbolLaws.{symbol-own, byte-below, symbols-field, zero-byte}
 use Rattle.rows.specs.Curves.{Curve, Height, Under}
 use Rattle.rows.specs.Bytes.{slot, curveBytes, HoldsCurve}
 use Rattle.rows.specs.Work.{Fine}
 use Rattle.rows.proofs.Places.{rowsOf-at, rowsOf-boxed, slot-inside, curve-small, in-curve}
+use Rattle.rows.proofs.Boxes.{holds-row}
 use Rattle.near.specs.Work.{shapeOf, curveOf, sliceOf, Laid}
 use Rattle.near.specs.declared.search.Plan.{Plan}
 use Rattle.near.proofs.Steps.{slice-at, slice-beyond}
@@ -62,12 +62,7 @@ module _ {plan : Plan} {xs : List ℕ} (laid : Laid plan xs) where
 -- bytes that hold a curve within these bounds are that curve
 module _ (plan : Plan) (xs : List ℕ) (Q : Curve (symbols (plan .p) .ring)) (holds : HoldsCurve (shapeOf plan) xs Q) (tall : Height (symbols (plan .p) .ring) (suc (plan .l)) Q) (light : Under (symbols (plan .p) .ring) (plan .k - 1) (suc (plan .width)) 0 Q) where
   pub holds-curve : curveOf plan xs ≡ Q
-  holds-curve = fun-ext (λ j. fun-ext (λ e. go j e (decLe j (plan .l)) (decLe e (plan .width))))
-    where
-      go : (j e : ℕ) → Dec (j ≤ plan .l) → Dec (e ≤ plan .width) → curveOf plan xs j e ≡ Q j e
-      go j e (yes h) (yes k) = rw (curve-at plan xs h k, holds j e h k) (symbol-byte (plan .p) (Q j e))
-      go j e (yes h) (no k) = curve-wide plan xs j (omega arith) ∙ sym (light j e (omega arith) (λ _. zero-le))
-      go j e (no h) k = curve-high plan xs e (omega arith) ∙ sym (tall j e (omega arith))
+  holds-curve = holds-row (shapeOf plan) xs {i = 0} (omega arith) Q (λ j e h k. ap (λ (q : ℕ). getD xs q 0) (omega arith) ∙ holds j e h k) tall light
 
   pub holds-laid : Fine (shapeOf plan) → curveBytes (shapeOf plan) ≤ length xs → Laid plan xs
   holds-laid fine room =

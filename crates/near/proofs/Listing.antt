@@ -1,18 +1,18 @@
 -- The job list, put together: what an accepted list knows of its request; start, one turn and finish give the curve of demand 2; on its bytes
 -- the search may run; and what the search leaves is the answer.
-use mathlib.Core.Path.{_≡_, refl, sym, ap, _∙_, fun-ext}
+use mathlib.Core.Path.{_≡_, refl, sym, ap, _∙_}
 use mathlib.Core.Logic.{inl, inr}
 use mathlib.Core.List.{List}
 use mathlib.Core.HLevel.{dec→stable}
-use Prim.Native.Nat.{ℕ, zero, suc, _-_, _*_, _≤_, _<_, zero-le}
-use native.Mathlib.Decide.{decLe, ℕ-discrete}
+use Prim.Native.Nat.{ℕ, zero, suc, _-_, _*_, _≤_, _<_}
+use native.Mathlib.Decide.{ℕ-discrete}
 use native.Mathlib.Omega.{arith}
 use lib.ListN.{length}
 use borrow.Author.Needs.{needs}
 use Rattle.field.specs.Symbols.{symbols}
 use Rattle.field.specs.Ring.{Ring}
 use Rattle.field.specs.Field.{FieldLaws}
-use Rattle.field.proofs.SymbolLaws.{symbols-field, symbol-byte, byte-below}
+use Rattle.field.proofs.SymbolLaws.{symbols-field}
 use Rattle.poly.specs.Polynomials.{locator}
 use Rattle.poly.specs.Encode.{symbolsOf}
 use Rattle.poly.specs.Table.{First, NotListed, BadCount, BadDegree}
@@ -36,7 +36,7 @@ use Rattle.rows.proofs.Passing.{begins-same, begins-start}
 use Rattle.rows.proofs.Demands.{demand-3, demand-2}
 use Rattle.rows.proofs.Notes.{good-note, good-fine}
 use Rattle.rows.proofs.Accepted.{Accepted, start-accepted, accepted-note}
-use Rattle.rows.proofs.Places.{rows-small, in-curve}
+use Rattle.rows.proofs.Places.{rows-small}
 use Rattle.rows.proofs.Leads.{under-mono}
 use Rattle.near.specs.Job.{workingRoom, listTable, Zeroed, refusal, RuleUpdates, Lists, HasListed}
 use Rattle.near.specs.Lists.{task, IsList}
@@ -47,7 +47,7 @@ use Rattle.near.specs.declared.Weighed.{Weighed}
 use Rattle.near.specs.declared.search.Plan.{Plan}
 use Rattle.near.proofs.Messages.{symbols-numbered}
 use Rattle.near.proofs.Answer.{search-is-list, list-at-most, smallest-weight}
-use Rattle.near.proofs.Laying.{curve-at, curve-high, curve-wide}
+use Rattle.near.proofs.Laying.{holds-curve, holds-laid}
 
 pub record Taken (p : ℕ) (points word : List ℕ) (k m l t : ℕ) (room messages : List ℕ) : Type 0 where
   pub start : First (startTable p points word k m l room) 0
@@ -123,7 +123,7 @@ module _ {p : ℕ} {points word : List ℕ} {k m l : ℕ} {room rows new lent cu
       let b = begins-start Φ points-apart (omega arith) (accepted .degree) (accepted .heights .order) thr in
       let first : ℕ → Curve (ringFor q) = startRow (ringFor q) m (locator (ringFor q) (length points) (symbolsOf p points)) h in
       let same : (i : ℕ) → i ≤ l → rowsOf (shapeFor q) rows i ≡ first i = λ i g.
-      holds-row (shapeFor q) rows first (begun .0 .rows (begun .1) h thr) i g (λ j e x. b .fresh i g .height j e (omega arith)) (b .fresh i g .within) in
+      holds-row (shapeFor q) rows g (first i) (λ j e. begun .0 .rows (begun .1) h thr i j e g) (λ j e x. b .fresh i g .height j e (omega arith)) (b .fresh i g .within) in
       let (o, t, e, u) = end-alike Φ (fresh-enters Φ (begins-same Φ same b .fresh)) (λ i g. sym (same i g)) (goes .turn) at-end in
       record { h = h; through = thr; allowance = ample; outcome = o; turn = t; finished = e; are = goes .updates ∙ sym u }
 
@@ -168,22 +168,10 @@ module _ {p : ℕ} {points word : List ℕ} {k m l t : ℕ} {room cleared messag
       under-mono R (k - 1) (s .weight) (suc (s .power)) (suc (plan .width)) zero Q (omega arith) (λ h. absurd (omega arith)) (s .lead .rest)
 
   curve-is : curveOf plan bytes ≡ Q
-  curve-is = fun-ext (λ j. fun-ext (λ e. go j e (decLe j l) (decLe e (plan .width))))
-    where
-      go : (j e : ℕ) → Dec (j ≤ l) → Dec (e ≤ plan .width) → curveOf plan bytes j e ≡ Q j e
-      go j e (yes h) (yes g) = rw (curve-at plan bytes h g, f .bytes j e h g) (symbol-byte p (Q j e))
-      go j e (no h) g = curve-high plan bytes e (omega arith) ∙ sym (f .smallest .member .height j e (omega arith))
-      go j e (yes h) (no g) = curve-wide plan bytes j (omega arith) ∙ sym (light j e (omega arith) (λ _. zero-le))
+  curve-is = holds-curve plan bytes Q (f .bytes) (f .smallest .member .height) light
 
   laid : Laid plan bytes
-  laid =
-      let S = shape p (length points) k m l in
-      record {
-        fine = good-fine (accepted-note a);
-        room = rw (f .long) enough;
-        below = λ s h. let c = in-curve S h in rw (c .is, f .bytes (c .power) (c .degree) (c .low) (c .short)) (byte-below (a .places .size) (Q (c .power) (c .degree)));
-        light = rw curve-is light;
-      }
+  laid = holds-laid plan bytes Q (f .bytes) (f .smallest .member .height) light (good-fine (accepted-note a)) (rw (f .long) enough)
 
   -- the curve's weight is at hand as the byte that interpolation gives
   module _ (vouched : back .weight < m * t) where

@@ -144,7 +144,7 @@ module _ (q : Request) where
         let holds = begun .0 .rows (begun .1) h thr in
         record {
           start = rowsOf (shapeFor q) after;
-          begins = begins-same Φ (λ i k. holds-row (shapeFor q) after rows holds i k (λ j e x. b .fresh i k .height j e (omega arith)) (b .fresh i k .within)) b;
+          begins = begins-same Φ (λ i k. holds-row (shapeFor q) after k (rows i) (λ j e. holds i j e k) (λ j e x. b .fresh i k .height j e (omega arith)) (b .fresh i k .within)) b;
           list = [];
           outcome = stops F 0 (rowsOf (shapeFor q) after) 1;
           run = none;
