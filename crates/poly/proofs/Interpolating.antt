@@ -91,6 +91,27 @@ module _ {p : ℕ} {points word work : List ℕ} {s : ℕ} (P : Places p points 
       let distinct : Distinct R s (symbolsOf p points) = λ i j k q. places-distinct P i j (omega arith) (omega arith) in
       interpolant-unique (Φ .ring) s (symbolsOf p points) (symbolsOf p word) (t .h) g (distinct-apart Φ s (symbolsOf p points) distinct) (t .through) through
 
+  length-low : length (take 32 work) ≡ 32
+  length-low = let long = t .long in simp length-take (omega arith)
+
+  length-high : length (drop 32 work) ≡ 32
+  length-high = let long = t .long in simp length-drop (omega arith)
+
+  -- the two halves are h and e
+  module _ (most : s ≤ length points) where
+    few : s < 32
+    few = let n = P .count in let q = P .size .small in omega arith
+
+    pub interpolated-h : symbolsOf p (take 32 work) ≡ t .h
+    interpolated-h =
+        let n = length-low in let f = few in
+        symbols-are p (take 32 work) (t .h) (λ i g. t .through .short i (omega arith)) (λ i g. getD-take 32 work i 0 (omega arith) ∙ t .low i (omega arith))
+
+    pub interpolated-e : symbolsOf p (drop 32 work) ≡ e
+    interpolated-e =
+        let n = length-high in let f = few in
+        symbols-are p (drop 32 work) e (λ i g. monic-locator (Φ .ring) s (symbolsOf p points) .rest i (omega arith)) (λ i g. getD-drop 32 work i 0 ∙ t .high i (omega arith))
+
   module _ (l : s < length points) where
     -- the next place
     abbrev a : ℕ
@@ -120,30 +141,11 @@ module _ {p : ℕ} {points word work : List ℕ} {s : ℕ} (P : Places p points 
           apart = inl (omega arith);
         }
 
-    few : s < 31
-    few = let n = P .count in let q = P .size .small in omega arith
-
-    length-low : length (take 32 work) ≡ 32
-    length-low = let long = t .long in simp length-take (omega arith)
-
-    length-high : length (drop 32 work) ≡ 32
-    length-high = let long = t .long in simp length-drop (omega arith)
-
-    h-is : symbolsOf p (take 32 work) ≡ t .h
-    h-is =
-        let n = length-low in let f = few in
-        symbols-are p (take 32 work) (t .h) (λ i g. t .through .short i (omega arith)) (λ i g. getD-take 32 work i 0 (omega arith) ∙ t .low i (omega arith))
-
-    e-is : symbolsOf p (drop 32 work) ≡ e
-    e-is =
-        let n = length-high in let f = few in
-        symbols-are p (drop 32 work) e (λ i g. monic-locator (Φ .ring) s (symbolsOf p points) .rest i (omega arith)) (λ i g. getD-drop 32 work i 0 ∙ t .high i (omega arith))
-
     value-h : valueAt p (take 32 work) a ≡ value R (symbol p a) s (t .h)
-    value-h = rw (length-low, h-is, value-more (Φ .ring) (symbol p a) s 32 (t .h) (t .through .short) (let f = few in omega arith))
+    value-h = rw (length-low, interpolated-h (omega arith), value-more (Φ .ring) (symbol p a) s 32 (t .h) (t .through .short) (let f = few (omega arith) in omega arith))
 
     value-e : valueAt p (drop 32 work) a ≡ value R (symbol p a) (suc s) e
-    value-e = rw (length-high, e-is, value-more (Φ .ring) (symbol p a) (suc s) 32 e (monic-locator (Φ .ring) s (symbolsOf p points) .rest) (let f = few in omega arith))
+    value-e = rw (length-high, interpolated-e (omega arith), value-more (Φ .ring) (symbol p a) (suc s) 32 e (monic-locator (Φ .ring) s (symbolsOf p points) .rest) (few (omega arith)))
 
     abbrev C : Element p
     C = symbol p (excessOf p a b work)

@@ -7,13 +7,13 @@ use native.Mathlib.Nat.{suc-mul}
 use native.Mathlib.Numerals.{add-one}
 use native.Mathlib.Decide.{ℕ-discrete}
 use native.Mathlib.Omega.{arith}
-use lib.ListN.{length, getD, take, drop, length-take, length-drop}
-use lib.Seq.{getD-take, getD-drop, take-all}
+use lib.ListN.{length, getD, take, drop}
 use Rattle.field.specs.Symbols.{Listed, symbols}
 use Rattle.field.proofs.SymbolLaws.{symbols-field, zero-byte}
 use Rattle.poly.specs.Polynomials.{Series, zeroS, consS}
 use Rattle.poly.specs.Encode.{symbolsOf}
 use Rattle.poly.specs.Buffers.{AllBelow, Kept}
+use Rattle.poly.proofs.BufferLaws.{below-take, below-drop}
 use Rattle.rows.specs.Curves.{Curve}
 use Rattle.rows.specs.Start.{startRow}
 use Rattle.rows.specs.Bytes.{slot, curveBytes, rowsBytes, place, Holds, Untouched}
@@ -139,18 +139,8 @@ filled-all k f q j d g o u = f .done q (omega arith) g j d o u
 
 -- h and e as parts of the work
 module _ {S : Shape} {work rows : List ℕ} (a : Fills S work rows) where
-  part-below : (at n : ℕ) → at + n ≤ 64 → AllBelow (S .p) (take n (drop at work))
-  part-below at n h i k =
-      let l = length-take n (drop at work) in
-      let m = a .long in
-      let g : i < n = omega arith in
-      rw (getD-take n (drop at work) i 0 g, getD-drop at work i 0) (a .below (at + i) (omega arith))
-
   pub h-below : AllBelow (S .p) (take 32 work)
-  h-below = part-below 0 32 (omega arith)
+  h-below = below-take 32 work (a .below)
 
   pub e-below : AllBelow (S .p) (take (length work - 32) (drop 32 work))
-  e-below = let l = a .long in part-below 32 (length work - 32) (omega arith)
-
-  pub e-is : take (length work - 32) (drop 32 work) ≡ drop 32 work
-  e-is = take-all (length work - 32) (drop 32 work) (omega (arith, length-drop 32 work))
+  e-below = below-take (length work - 32) (drop 32 work) (below-drop 32 work (a .below))

@@ -1,11 +1,11 @@
 -- The rows filled by the bytes of an interpolation are those of h and e; and what `HasStarted` says fixes the number, the note and every byte.
-use mathlib.Core.Path.{_≡_, sym, ap, ap₂, _∙_}
+use mathlib.Core.Path.{_≡_, sym, ap₂, _∙_}
 use mathlib.Core.List.{List}
 use Prim.Native.Nat.{ℕ, _<_}
 use native.Mathlib.Decide.{ℕ-discrete, decLt}
 use native.Mathlib.Omega.{arith}
-use lib.ListN.{length, getD, take, drop, length-take, length-drop}
-use lib.Seq.{ext-getD, getD-take, getD-drop}
+use lib.ListN.{length, getD}
+use lib.Seq.{ext-getD}
 use Rattle.field.specs.Ring.{Ring}
 use Rattle.field.specs.Symbols.{symbols}
 use Rattle.field.proofs.SymbolLaws.{symbols-field}
@@ -13,10 +13,8 @@ use Rattle.poly.specs.Polynomials.{Seq, locator, Through}
 use Rattle.poly.specs.Encode.{symbolsOf}
 use Rattle.poly.specs.Buffers.{Interpolated}
 use Rattle.poly.proofs.TableLaws.{first-determined}
-use Rattle.poly.proofs.BufferLaws.{symbols-are}
-use Rattle.poly.proofs.Degrees.{monic-locator}
 use Rattle.poly.proofs.Interpolation.{interpolate}
-use Rattle.poly.proofs.Interpolating.{places-distinct, interpolated-only}
+use Rattle.poly.proofs.Interpolating.{places-distinct, interpolated-only, interpolated-h, interpolated-e}
 use Rattle.rows.specs.Start.{startRow}
 use Rattle.rows.specs.Bytes.{shape, rowsBytes, Holds}
 use Rattle.rows.specs.Jobs.{startTable, HasStarted}
@@ -39,26 +37,8 @@ module _ {p : ℕ} {points word : List ℕ} {k m l : ℕ} {rows : List ℕ} (a :
 
   -- the 64 bytes are h and e
   module _ {work : List ℕ} (t : Interpolated p points word n work) {h : Seq R} (through : Through R n (symbolsOf p points) (symbolsOf p word) h) where
-    few : n < 32
-    few = let c = a .places .count in let s = a .places .size .small in omega arith
-
-    h-is : symbolsOf p (take 32 work) ≡ h
-    h-is =
-        let long = length-take 32 work in
-        let w = t .long in
-        symbols-are p (take 32 work) h (λ i g. through .short i (omega (arith, few)))
-        (λ i g. getD-take 32 work i 0 (omega arith) ∙ t .low i (omega arith) ∙ ap (λ (f : Seq R). f i .byte) (interpolated-only (a .places) t (omega arith) through))
-
-    e-is : symbolsOf p (drop 32 work) ≡ locator R n (symbolsOf p points)
-    e-is =
-        let long = length-drop 32 work in
-        let w = t .long in
-        symbols-are p (drop 32 work) (locator R n (symbolsOf p points))
-        (λ i g. monic-locator (symbols-field p (a .places .size) .ring) n (symbolsOf p points) .rest i (omega (arith, few)))
-        (λ i g. getD-drop 32 work i 0 ∙ t .high i (omega arith))
-
     pub accepted-rows : (after : List ℕ) → Filled S m work after → Holds S after (startRow R m (locator R n (symbolsOf p points)) h)
-    accepted-rows after f = rw (h-is, e-is) at f
+    accepted-rows after f = rw (interpolated-h (a .places) t (omega arith) ∙ interpolated-only (a .places) t (omega arith) through, interpolated-e (a .places) t (omega arith)) at f
 
 -- two outcomes of start for the same arguments are the same
 module _ {p : ℕ} {points word : List ℕ} {k m l : ℕ} {before : List ℕ} where

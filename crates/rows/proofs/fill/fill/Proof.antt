@@ -7,9 +7,10 @@ use native.Mathlib.Omega.{arith}
 use lib.ListN.{length, take, drop}
 use lib.Seq.{length-take-le}
 use borrow.Author.Needs.{needs}
+use Rattle.poly.proofs.BufferLaws.{take-rest}
 use Rattle.rows.specs.Bytes.{rowsBytes}
 use Rattle.rows.specs.Filling.{RaisesRow}
-use Rattle.rows.proofs.FilledRows.{RowsFilled, toFill, filled-none, filled-begins, filled-bare, filled-low, filled-high, filled-all, h-below, e-below, e-is}
+use Rattle.rows.proofs.FilledRows.{RowsFilled, toFill, filled-none, filled-begins, filled-bare, filled-low, filled-high, filled-all, h-below, e-below}
 use Rattle.rows.proofs.fill.fill.Statement.{statement}
 use Rattle.rows.proofs.fill.fill.Tie as tie
 use Rattle.rows.proofs.fill.fill.Reads as reads
@@ -109,7 +110,7 @@ returns c =
     let l = c .before .before in
     let v = l .loop .inv .1 in
     let u = first (l .before .before .before) .rest in
-    (rw (e-is (s l .pre)) at (filled-all (c .if1 .left) v), record { long = v .rest .long ∙ u .long; same = λ q k. v .rest .same q k ∙ u .same q k })
+    (rw (take-rest 32 (s l .args .work .now)) at (filled-all (c .if1 .left) v), record { long = v .rest .long ∙ u .long; same = λ q k. v .rest .same q k ∙ u .same q k })
 
 pub fill-spec : {M : Type 1} → statement M
 fill-spec =
