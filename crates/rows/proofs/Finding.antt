@@ -1,20 +1,21 @@
 -- The search for a leading term, by falling powers of y: what was found down to y^j leads what stands from y^j on.
 use mathlib.Core.Path.{_≡_, refl, sym, _∙_}
 use mathlib.Core.Bool.{Bool, true, false, true≢false}
-use mathlib.Core.Logic.{_≢_, inr}
+use mathlib.Core.Logic.{_≢_}
 use mathlib.Core.List.{List}
 use Prim.Native.Nat.{ℕ, zero, suc, _+_, _-_, _*_, _≤_, _<_, zero-le}
 use native.Mathlib.Decide.{decLe, ℕ-discrete}
 use native.Mathlib.Omega.{arith}
+use lib.ListN.{getD}
 use Rattle.field.specs.Ring.{Ring}
 use Rattle.field.specs.Symbols.{symbol}
 use Rattle.rows.specs.Curves.{Curve, Zero, Lead, LeadsAt}
-use Rattle.rows.specs.Bytes.{slot, curveBytes, rowsOf}
+use Rattle.rows.specs.Bytes.{slot, curveBytes, rowsOf, place}
 use Rattle.rows.specs.Work.{Bytes, LightRow, SizeTo, Heavier, absent, lighter, heavier, FoundLead}
 use Rattle.rows.specs.declared.Shape.{Shape}
 use Rattle.rows.specs.declared.leading.Found.{Found}
 use Rattle.rows.proofs.Leads.{lead-unique, lead-nonzero}
-use Rattle.rows.proofs.Places.{lift-inside, rowsOf-at, rowsOf-boxed, rowsOf-zero}
+use Rattle.rows.proofs.Places.{lift-inside, rowsOf-zero, rowsOf-null}
 
 module _ (R : Ring) (u : ℕ) (Q : Curve R) where
   open Ring R using (𝟘)
@@ -85,12 +86,11 @@ module _ (R : Ring) (u : ℕ) (Q : Curve R) where
 module _ {S : Shape} {xs : List ℕ} {i j size : ℕ} (b : Bytes S xs) (light : LightRow S xs i) (g : i ≤ S .l) (h : j ≤ S .l)
     (size-to : SizeTo xs (i * curveBytes S + j * slot S) (S .width - S .u * j) size) where
   pub slot-above : (e : ℕ) → size ≤ e → rowsOf S xs i j e ≡ symbol (S .p) 0
-  slot-above e l = go (decLe e (S .width)) (decLe e (S .width - S .u * j))
+  slot-above e l = rowsOf-null S xs g j e (λ _ k. go k (decLe e (S .width - S .u * j)))
     where
-      go : Dec (e ≤ S .width) → Dec (e ≤ S .width - S .u * j) → rowsOf S xs i j e ≡ symbol (S .p) 0
-      go (yes k) (yes m) = rw (rowsOf-at S xs g h k, size-to .above e l m)
-      go (yes k) (no m) = let z = lift-inside (b .fine) h in rw (rowsOf-at S xs g h k, light j e h k (omega arith))
-      go (no k) m = rowsOf-boxed S xs i j e (inr (inr (omega arith)))
+      go : e ≤ S .width → Dec (e ≤ S .width - S .u * j) → getD xs (place S i j e) 0 ≡ 0
+      go k (yes m) = size-to .above e l m
+      go k (no m) = let z = lift-inside (b .fine) h in light j e h k (omega arith)
 
   pub slot-last : 0 < size → rowsOf S xs i j (size - 1) ≢ symbol (S .p) 0
   slot-last k z = let m = size-to .within in size-to .last k (rowsOf-zero b g h (omega arith) z)

@@ -20,7 +20,7 @@ use Rattle.rows.specs.Jobs.{HasHeight}
 use Rattle.rows.specs.Bytes.{slot, curveBytes, rowsBytes, rowsOf, place, HoldsCurve, Untouched}
 use Rattle.rows.specs.Work.{Bytes, SizeTo, Whole, HandsOver, copiedFrom}
 use Rattle.rows.specs.declared.Shape.{Shape}
-use Rattle.rows.proofs.Places.{block-end, row-end, slot-inside, place-inside, rows-small, rowsOf-at, rowsOf-boxed, place-below, rowsOf-zero}
+use Rattle.rows.proofs.Places.{block-end, row-end, slot-inside, place-inside, rows-small, rowsOf-at, rowsOf-boxed, place-below, rowsOf-zero, rowsOf-null}
 use Rattle.rows.proofs.Least.{monic-at}
 
 module _ (src : List ℕ) (at : ℕ) (xs : List ℕ) where
@@ -110,14 +110,11 @@ module _ {S : Shape} {xs : List ℕ} {row weight : ℕ} {curve : List ℕ} (h : 
 -- the slot of a row's last nonzero byte
 module _ {S : Shape} {xs : List ℕ} {row size : ℕ} (w : Whole S xs) (h : row ≤ S .l) (z : SizeTo xs (row * curveBytes S) (curveBytes S - 1) size) where
   row-past : (t e : ℕ) → size ≤ t * slot S + e → rowsOf S xs row t e ≡ symbol (S .p) 0
-  row-past t e past = go (decLe t (S .l)) (decLe e (S .width))
-    where
-      go : Dec (t ≤ S .l) → Dec (e ≤ S .width) → rowsOf S xs row t e ≡ symbol (S .p) 0
-      go (yes g) (yes k) =
-          let a : place S row t e ≡ row * curveBytes S + (t * slot S + e) = omega arith in
-          rw (rowsOf-at S xs h g k, a, z .above (t * slot S + e) past (omega (arith, slot-inside S g k)))
-      go (yes g) (no k) = rowsOf-boxed S xs row t e (inr (inr (omega arith)))
-      go (no g) k = rowsOf-boxed S xs row t e (inr (inl (omega arith)))
+  row-past t e past =
+      rowsOf-null S xs h t e
+      (λ g k.
+      let a : place S row t e ≡ row * curveBytes S + (t * slot S + e) = omega arith in
+      rw a (z .above (t * slot S + e) past (omega (arith, slot-inside S g k))))
 
   pub row-some : 0 < size
   row-some = go (decLt 0 size)

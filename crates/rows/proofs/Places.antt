@@ -2,7 +2,7 @@
 --   slot-end, row-end    slot j ends within its curve, row i within the rows; rows-apart, place-apart  rows do not overlap
 --   curve-small, rows-small, lift-inside   bounds of an accepted request
 --   in-curve, in-rows    the coefficient that a byte is
---   rowsOf-at, -byte     a coefficient and its byte; rowsOf-boxed  there is none outside
+--   rowsOf-at, -byte     a coefficient and its byte; rowsOf-boxed  there is none outside; rowsOf-null  it is zero where its byte is
 --   holds-bytes, -own    bytes that hold rows are below p, and those below p hold their own
 --   light-row, -curve    no term above the width, said of the bytes and of the curve
 use mathlib.Core.Path.{_≡_, refl, sym, _∙_}
@@ -126,6 +126,15 @@ module _ (S : Shape) (xs : List ℕ) where
       go true false = refl
       go false b = refl
 
+  -- a coefficient is zero where its byte is, or where it has none
+  pub rowsOf-null : {i : ℕ} → i ≤ S .l → (j e : ℕ) → (j ≤ S .l → e ≤ S .width → getD xs (place S i j e) 0 ≡ 0) → rowsOf S xs i j e ≡ symbol (S .p) 0
+  rowsOf-null {i} g j e z = go (decLe j (S .l)) (decLe e (S .width))
+    where
+      go : Dec (j ≤ S .l) → Dec (e ≤ S .width) → rowsOf S xs i j e ≡ symbol (S .p) 0
+      go (yes h) (yes k) = rw (rowsOf-at g h k, z h k)
+      go (yes h) (no k) = rowsOf-boxed i j e (inr (inr (omega arith)))
+      go (no h) k = rowsOf-boxed i j e (inr (inl (omega arith)))
+
 -- the bytes that hold rows
 module _ (S : Shape) (ys : List ℕ) (rows : ℕ → Curve (symbols (S .p) .ring)) (holds : Holds S ys rows) where
   pub holds-bytes : Fine S → rowsBytes S ≤ length ys → Bytes S ys
@@ -157,9 +166,4 @@ module _ {S : Shape} {xs : List ℕ} (b : Bytes S xs) where
   light-row {i} g under j e h k l = rowsOf-zero g h k (under j e l (λ _. zero-le))
 
 pub light-curve : (S : Shape) (xs : List ℕ) {i : ℕ} → i ≤ S .l → LightRow S xs i → Under (symbols (S .p) .ring) (S .u) (suc (S .width)) zero (rowsOf S xs i)
-light-curve S xs {i} g light j e l _ = go (decLe j (S .l)) (decLe e (S .width))
-  where
-    go : Dec (j ≤ S .l) → Dec (e ≤ S .width) → rowsOf S xs i j e ≡ symbol (S .p) 0
-    go (no h) y = rowsOf-boxed S xs i j e (inr (inl (omega arith)))
-    go (yes h) (no k) = rowsOf-boxed S xs i j e (inr (inr (omega arith)))
-    go (yes h) (yes k) = rw (rowsOf-at S xs g h k, light j e h k l)
+light-curve S xs g light j e l _ = rowsOf-null S xs g j e (λ h k. light j e h k l)

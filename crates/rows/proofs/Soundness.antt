@@ -1,6 +1,5 @@
 -- What the entry test asks of bytes and of rows, one slot and one row at a time.
 use mathlib.Core.Path.{_≡_}
-use mathlib.Core.Logic.{inl, inr}
 use mathlib.Core.List.{List}
 use Prim.Native.Nat.{ℕ, suc, _+_, _-_, _*_, _≤_, _<_, max}
 use native.Mathlib.Nat.{mul-le-mul-right}
@@ -9,7 +8,7 @@ use native.Mathlib.Omega.{arith}
 use lib.ListN.{length, getD, take}
 use lib.Seq.{getD-take, length-take-le}
 use Rattle.field.specs.Ring.{Ring}
-use Rattle.field.specs.Symbols.{symbol, symbols}
+use Rattle.field.specs.Symbols.{symbols}
 use Rattle.poly.specs.Table.{TooLarge}
 use Rattle.poly.proofs.TableLaws.{below-passed}
 use Rattle.rows.specs.Curves.{Curve, Height}
@@ -17,7 +16,7 @@ use Rattle.rows.specs.Entry.{Sound}
 use Rattle.rows.specs.Bytes.{slot, curveBytes, rowsBytes, place, rowsOf}
 use Rattle.rows.specs.Work.{Fine, Bytes, ZeroBetween, SoundRow}
 use Rattle.rows.specs.declared.Shape.{Shape}
-use Rattle.rows.proofs.Places.{block-end, slot-inside, in-curve, lift-inside, rowsOf-at, rowsOf-boxed, rowsOf-zero}
+use Rattle.rows.proofs.Places.{block-end, slot-inside, in-curve, lift-inside, rowsOf-zero, rowsOf-null}
 
 -- bytes of which none is too large
 pub bytes-below : {S : Shape} {xs : List ℕ} → Fine S → rowsBytes S ≤ length xs → (TooLarge (S .p) (take (rowsBytes S) xs) → ⊥) → Bytes S xs
@@ -59,15 +58,12 @@ module _ {S : Shape} {xs : List ℕ} (b : Bytes S xs) {i : ℕ} (g : i ≤ S .l)
       above j e h m (no k) = let z = block-end (slot S) {i = j} {k = t} (omega arith) in absurd (omega arith)
 
   pub zero-height : ZeroBetween xs (i * curveBytes S + t * slot S) (i * curveBytes S + curveBytes S) → Height (symbols (S .p) .ring) t (rowsOf S xs i)
-  zero-height z j e h = go (decLe j (S .l)) (decLe e (S .width))
-    where
-      go : Dec (j ≤ S .l) → Dec (e ≤ S .width) → rowsOf S xs i j e ≡ symbol (S .p) 0
-      go (yes k) (yes m) =
-          let a = mul-le-mul-right (slot S) h in
-          let d = slot-inside S k m in
-          rw (rowsOf-at S xs g k m, z (place S i j e) (omega arith) (omega arith))
-      go (yes k) (no m) = rowsOf-boxed S xs i j e (inr (inr (omega arith)))
-      go (no k) m = rowsOf-boxed S xs i j e (inr (inl (omega arith)))
+  zero-height z j e h =
+      rowsOf-null S xs g j e
+      (λ k m.
+      let a = mul-le-mul-right (slot S) h in
+      let d = slot-inside S k m in
+      z (place S i j e) (omega arith) (omega arith))
 
 module _ {R : Ring} {u W l r : ℕ} {rows : ℕ → Curve R} where
   pub sound-row : Sound R u W l r rows → (i : ℕ) → i ≤ l → SoundRow R u W r i (rows i)
