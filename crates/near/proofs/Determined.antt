@@ -6,7 +6,7 @@ use Prim.Native.Nat.{ℕ, _*_, _<_}
 use native.Mathlib.Decide.{ℕ-discrete, decLt}
 use native.Mathlib.Omega.{arith}
 use lib.ListN.{length, getD}
-use lib.Seq.{ext-getD, getD-take}
+use lib.Seq.{getD-take}
 use Rattle.field.specs.Symbols.{symbols}
 use Rattle.field.proofs.SymbolLaws.{symbols-field}
 use Rattle.poly.specs.Encode.{symbolsOf}
@@ -16,8 +16,8 @@ use Rattle.poly.proofs.Places.{distinct-apart}
 use Rattle.poly.proofs.Interpolation.{interpolant-unique}
 use Rattle.poly.proofs.Interpolating.{places-distinct}
 use Rattle.rows.specs.Turns.{Outcome}
-use Rattle.rows.specs.Bytes.{Untouched}
 use Rattle.rows.proofs.Ends.{end-determined}
+use Rattle.rows.proofs.Regions.{untouched-unique}
 use Rattle.rows.proofs.Least.{weight-unique}
 use Rattle.near.specs.Lists.{task}
 use Rattle.near.specs.Job.{workingRoom, listTable, refusal, RuleUpdates, Lists, Answers, HasListed}
@@ -25,14 +25,6 @@ use Rattle.near.specs.declared.Near.{Near}
 use Rattle.near.proofs.Messages.{symbols-numbered}
 use Rattle.near.proofs.Lists.{list-unique}
 use Rattle.near.proofs.Listing.{list-taken}
-
--- bytes of which the first ones are given, and the others as they were
-bytes-unique : (size : ℕ) {before after also : List ℕ} → Untouched size before after → Untouched size before also → ((q : ℕ) → q < size → getD after q 0 ≡ getD also q 0) → after ≡ also
-bytes-unique size {before} {after} {also} a b low = ext-getD 0 after also (a .long ∙ sym (b .long)) (λ q h. go q (decLt q size))
-  where
-    go : (q : ℕ) → Dec (q < size) → getD after q 0 ≡ getD also q 0
-    go q (yes h) = low q h
-    go q (no h) = a .same q (omega arith) ∙ sym (b .same q (omega arith))
 
 near-same : {a b : Near} → a .number ≡ b .number → a .count ≡ b .count → a .updates ≡ b .updates → a .weight ≡ b .weight → a ≡ b
 near-same {a} {b} n c u w =
@@ -50,7 +42,7 @@ module _ {p : ℕ} {points word : List ℕ} {k m l : ℕ} (places : Places p poi
   lists-determined : {t w v : ℕ} {before after also : List ℕ} {x y : Near} → w ≡ v → Lists p points word k m l t w before after x → Lists p points word k m l t v before also y → (x ≡ y) × (after ≡ also)
   lists-determined {t} {before = before} {after} {also} e f g = (
     near-same (f .done ∙ sym (g .done)) (f .count ∙ ap length same ∙ sym (g .count)) (updates-unique (f .updates-are) (g .updates-are)) (f .weight-is ∙ e ∙ sym (g .weight-is)),
-    bytes-unique size (f .rest) (rw (← same) at (g .rest)) low,
+    untouched-unique size (f .rest) (rw (← same) at (g .rest)) low,
   )
     where
       same : f .list ≡ g .list
@@ -88,7 +80,7 @@ module _ {p : ℕ} {points word : List ℕ} {k m l t : ℕ} {room messages : Lis
               weight = weight-unique (a .smallest) (b .smallest)
 
               room-same : cleared ≡ zeros
-              room-same = bytes-unique workingRoom (a .zeroed .rest) (b .zeroed .rest) (λ q h. a .zeroed .zero q h ∙ sym (b .zeroed .zero q h))
+              room-same = untouched-unique workingRoom (a .zeroed .rest) (b .zeroed .rest) (λ q h. a .zeroed .zero q h ∙ sym (b .zeroed .zero q h))
 
               two : Dec (a .smallest .weight < m * t) → (x ≡ y) × (cleared ≡ zeros) × (after ≡ also)
               two (yes h) = let (i, j) = lists-determined places weight (a .lists h) (b .lists (rw weight at h)) in (i, room-same, j)

@@ -38,6 +38,7 @@ use Rattle.rows.proofs.Notes.{good-note, good-fine}
 use Rattle.rows.proofs.Accepted.{Accepted, start-accepted, accepted-note}
 use Rattle.rows.proofs.Places.{rows-small}
 use Rattle.rows.proofs.Leads.{under-mono}
+use Rattle.rows.proofs.Regions.{untouched-then}
 use Rattle.near.specs.Job.{workingRoom, listTable, Zeroed, refusal, RuleUpdates, Lists, HasListed}
 use Rattle.near.specs.Lists.{task, IsList}
 use Rattle.near.specs.Search.{found}
@@ -217,7 +218,7 @@ module _ {p : ℕ} {points word : List ℕ} {k m l t : ℕ} {room cleared messag
 
 -- the bytes were worked in, and then cleared
 zeroed-after : {size : ℕ} {before used cleared : List ℕ} → Untouched size before used → Zeroed size used cleared → Zeroed size before cleared
-zeroed-after u z = record { zero = z .zero; rest = record { long = z .rest .long ∙ u .long; same = λ q h. z .rest .same q h ∙ u .same q h } }
+zeroed-after u z = record { zero = z .zero; rest = untouched-then u (z .rest) }
 
 -- the three ways in which the job ends
 module _ {p : ℕ} {points word : List ℕ} {k m l t : ℕ} {room messages : List ℕ} where

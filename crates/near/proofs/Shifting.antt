@@ -1,15 +1,14 @@
 -- The curve's bytes while y becomes y + c x^i: one slot, a run of slots, all of them; and back, which restores every byte.
 use mathlib.Core.Path.{_≡_, refl, sym, ap, _∙_, fun-ext}
-use mathlib.Core.Logic.{_⊎_, inl, inr, ⊎-elim}
+use mathlib.Core.Logic.{_⊎_, inl, inr}
 use mathlib.Core.List.{List}
-use Prim.Native.Nat.{ℕ, zero, suc, _+_, _-_, _*_, _≤_, _<_, zero-le}
+use Prim.Native.Nat.{ℕ, suc, _+_, _-_, _*_, _≤_, _<_, zero-le}
 use native.Mathlib.Nat.{mul-le-mul-left, suc-mul}
 use native.Mathlib.Decide.{decLe, decLt, ℕ-discrete}
 use native.Mathlib.Omega.{arith}
-use lib.ListN.{length, getD}
-use lib.Seq.{ext-getD}
+use lib.ListN.{getD}
 use Rattle.field.specs.Ring.{Ring, RingLaws}
-use Rattle.field.specs.Symbols.{Element, symbol, symbols, sumOf, productOf, negativeOf}
+use Rattle.field.specs.Symbols.{Element, symbol, symbols, sumOf, productOf}
 use Rattle.field.specs.Operations.{negByte}
 use Rattle.field.specs.Kernels.{Subtracts, subtracted}
 use Rattle.field.proofs.RingLaws.{add-zero, mul-zero, neg-mul, neg-neg}
@@ -22,18 +21,11 @@ use Rattle.rows.specs.Turns.{mono}
 use Rattle.rows.specs.Bytes.{slot, curveBytes, Untouched}
 use Rattle.rows.proofs.Heights.{height-below}
 use Rattle.rows.proofs.Places.{block-end, slot-end, curve-small, in-curve}
-use Rattle.near.specs.Search.{chosen}
+use Rattle.rows.proofs.Regions.{untouched-none, untouched-then, untouched-unique}
 use Rattle.near.specs.Work.{shapeOf, curveOf, Laid, Tries, Raised, Shifted}
 use Rattle.near.specs.declared.search.Plan.{Plan}
 use Rattle.near.proofs.Passes.{pass, passes, pass-before, pass-top, pass-symbol, pass-symbol-low, chosen-passes, chosen-back}
 use Rattle.near.proofs.Laying.{curve-at, curve-high, curve-wide, curve-byte, laws}
-
--- bytes from `size` on, as they were
-pub untouched-none : (size : ℕ) (xs : List ℕ) → Untouched size xs xs
-untouched-none size xs = record { long = refl; same = λ q h. refl }
-
-pub untouched-on : {size : ℕ} {xs ys zs : List ℕ} → Untouched size xs ys → Untouched size ys zs → Untouched size xs zs
-untouched-on a b = record { long = b .long ∙ a .long; same = λ q h. b .same q h ∙ a .same q h }
 
 -- one slot, at the kernel's call
 module _ {plan : Plan} {i c : ℕ} {xs : List ℕ} (tries : Tries plan i c xs) {q : ℕ} (inside : q < plan .l) where
@@ -177,7 +169,7 @@ module _ {plan : Plan} {i c j q : ℕ} {xs ys zs : List ℕ} (done : Raised plan
   took zs a e = sumOf (plan .p) (curveOf plan zs a e) (productOf (plan .p) (symbol (plan .p) c) (curveOf plan zs (suc a) (e - i)))
 
   pub raised-more : Raised plan i c j (suc q) xs zs
-  raised-more = record { laid = one .laid; slots = slots; others = others; rest = untouched-on (done .rest) (one .rest) }
+  raised-more = record { laid = one .laid; slots = slots; others = others; rest = untouched-then (done .rest) (one .rest) }
     where
       slots : (a e : ℕ) → j ≤ a → a < suc q → i ≤ e → curveOf plan zs a e ≡ took xs a e
       slots a e h k g = go (decLt a q)
@@ -246,7 +238,7 @@ shifting-more {plan} {i} {c} {j} {xs} {ys} {zs} s some r =
           ∙ sym (passes-suc (Series R) (mono R (symbol (plan .p) c) i) (j - 1) (curveOf plan ys))
           ∙ ap (λ (n : ℕ). passes (Series R) (mono R (symbol (plan .p) c) i) n (curveOf plan ys)) (sym e)
           ∙ s .left;
-      rest = untouched-on (s .rest) (r .rest);
+      rest = untouched-then (s .rest) (r .rest);
     }
 
 pub shifted : {plan : Plan} {i c : ℕ} {xs ys : List ℕ} → Laid plan xs → Shifting plan i c 0 xs ys → Shifted plan i c xs ys
@@ -264,17 +256,15 @@ shifted {plan} {i} {c} {xs} laid s =
 
 -- two curves that are the same lie in the same bytes
 pub laid-same : {plan : Plan} {xs ys : List ℕ} → Laid plan xs → Laid plan ys → curveOf plan ys ≡ curveOf plan xs → Untouched (curveBytes (shapeOf plan)) xs ys → ys ≡ xs
-laid-same {plan} {xs} {ys} a b e u = ext-getD 0 ys xs (u .long) (λ q h. go q (decLt q (curveBytes (shapeOf plan))))
-  where
-    go : (q : ℕ) → Dec (q < curveBytes (shapeOf plan)) → getD ys q 0 ≡ getD xs q 0
-    go q (yes l) =
-        let r = in-curve (shapeOf plan) l in
-        rw (r .is) (sym (curve-byte b (r .low) (r .short)) ∙ ap (λ (T : Curve (symbols (plan .p) .ring)). T (r .power) (r .degree) .byte) e ∙ curve-byte a (r .low) (r .short))
-    go q (no l) = u .same q (omega arith)
+laid-same {plan} {xs} {ys} a b e u =
+    untouched-unique (curveBytes (shapeOf plan)) u (untouched-none (curveBytes (shapeOf plan)) xs)
+    (λ q l.
+    let r = in-curve (shapeOf plan) l in
+    rw (r .is) (sym (curve-byte b (r .low) (r .short)) ∙ ap (λ (T : Curve (symbols (plan .p) .ring)). T (r .power) (r .degree) .byte) e ∙ curve-byte a (r .low) (r .short)))
 
 pub shifted-back : {plan : Plan} {i c : ℕ} {xs ys zs : List ℕ} → Laid plan xs → Shifted plan i c xs ys → Shifted plan i (negByte (plan .p) c) ys zs → zs ≡ xs
 shifted-back {plan} {i} {c} {xs} {ys} {zs} laid there back =
     laid-same laid (back .laid)
     (back .curve
     ∙ rw (there .curve, symbol-negByte (plan .p) c) (chosen-back (laws laid) (suc (plan .l)) i (symbol (plan .p) c) (curveOf plan xs) (tall laid i c)))
-    (untouched-on (there .rest) (back .rest))
+    (untouched-then (there .rest) (back .rest))

@@ -6,7 +6,6 @@ use Prim.Native.Nat.{ℕ, suc, _≤_, _<_}
 use native.Mathlib.Decide.{ℕ-discrete, decLt}
 use native.Mathlib.Omega.{arith}
 use lib.ListN.{length, getD}
-use lib.Seq.{ext-getD}
 use borrow.Author.Needs.{needs}
 use Rattle.field.specs.Ring.{Ring}
 use Rattle.field.specs.Symbols.{symbols}
@@ -21,6 +20,7 @@ use Rattle.rows.specs.declared.Note.{Note}
 use Rattle.rows.specs.declared.Shape.{Shape}
 use Rattle.rows.specs.declared.Finished.{Finished}
 use Rattle.rows.proofs.Places.{in-curve}
+use Rattle.rows.proofs.Regions.{untouched-unique}
 use Rattle.rows.proofs.Notes.{GoodNote, good-note, good-fine}
 use Rattle.rows.proofs.Soundness.{bytes-below}
 use Rattle.rows.proofs.Stability.{as-left-stable}
@@ -100,8 +100,4 @@ module _ {note : Note} {rows before : List ℕ} where
       go (yes e) =
           let x = f .curve e in
           let y = g .curve (sym same ∙ e) in
-          (all (hands-same x y .1) (hands-height x y), ext-getD 0 after also (f .rest .long ∙ sym (g .rest .long)) (λ q h. byte q (decLt q (curveBytes (shapeOf note)))))
-        where
-          byte : (q : ℕ) → Dec (q < curveBytes (shapeOf note)) → getD after q 0 ≡ getD also q 0
-          byte q (yes k) = hands-bytes (f .curve e) (g .curve (sym same ∙ e)) k
-          byte q (no k) = f .rest .same q (omega arith) ∙ sym (g .rest .same q (omega arith))
+          (all (hands-same x y .1) (hands-height x y), untouched-unique (curveBytes (shapeOf note)) (f .rest) (g .rest) (λ q k. hands-bytes x y k))

@@ -32,6 +32,7 @@ use Rattle.rows.proofs.Places.{holds-bytes, holds-own, light-row}
 use Rattle.rows.proofs.Boxes.{update-flat, rowsOf-flat, holds-flat}
 use Rattle.rows.proofs.Finding.{found-lead}
 use Rattle.rows.proofs.CrossedRows.{due}
+use Rattle.rows.proofs.Regions.{untouched-then}
 
 -- n updates made before
 abbrev pub more : {F : Field} → ℕ → Outcome F → Outcome F
@@ -130,7 +131,7 @@ module _ {S : Shape} {start allowance : ℕ} {before xs : List ℕ} {r left w s 
         inside = g .inside;
         sound = rw is sound;
         within = omega arith;
-        rest = record { long = u .long ∙ g .rest .long; same = λ q l. u .same q l ∙ g .rest .same q l };
+        rest = untouched-then (g .rest) u;
         back = back;
       }
     where

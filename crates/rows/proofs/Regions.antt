@@ -1,13 +1,14 @@
 -- Runs of bytes: cleared, copied, and regions with their parts.
-use mathlib.Core.Path.{_≡_, refl, _∙_}
+use mathlib.Core.Path.{_≡_, refl, sym, _∙_}
 use mathlib.Core.Logic.{_⊎_, inl, inr, ⊎-elim}
 use mathlib.Core.List.{List}
 use Prim.Native.Nat.{ℕ, _+_, _≤_, _<_}
 use native.Mathlib.Nat.{zero-add}
 use native.Mathlib.Numerals.{add-one}
+use native.Mathlib.Decide.{decLt}
 use native.Mathlib.Omega.{arith}
 use lib.ListN.{length, getD, set}
-use lib.Seq.{length-sets}
+use lib.Seq.{length-sets, ext-getD}
 use Rattle.field.specs.Lists.{tabulate}
 use Rattle.field.specs.Symbols.{Listed, symbols}
 use Rattle.field.specs.Kernels.{Region}
@@ -15,6 +16,7 @@ use Rattle.field.proofs.Lists.{sets-tabulate-zero, sets-tabulate-suc, sets-tabu
 use Rattle.field.proofs.SymbolLaws.{byte-below}
 use Rattle.poly.specs.Polynomials.{Seq}
 use Rattle.poly.specs.Buffers.{Factors, Kept}
+use Rattle.rows.specs.Bytes.{Untouched}
 use Rattle.rows.specs.Filling.{cleared, copied, Copies}
 
 module _ (xs : List ℕ) where
@@ -74,6 +76,21 @@ kept-wider by h a = record { long = a .long; same = λ q o. a .same q (⊎-elim 
 
 pub kept-longer : {at short len : ℕ} {xs ys : List ℕ} → short ≤ len → Kept at short xs ys → Kept at len xs ys
 kept-longer h a = record { long = a .long; same = λ q o. a .same q (⊎-elim inl (λ l. inr (omega arith)) o) }
+
+-- what is past the first bytes is kept
+pub untouched-none : (size : ℕ) (xs : List ℕ) → Untouched size xs xs
+untouched-none size xs = record { long = refl; same = λ q h. refl }
+
+pub untouched-then : {size : ℕ} {xs ys zs : List ℕ} → Untouched size xs ys → Untouched size ys zs → Untouched size xs zs
+untouched-then a b = record { long = b .long ∙ a .long; same = λ q h. b .same q h ∙ a .same q h }
+
+-- and with the first bytes the list is fixed
+pub untouched-unique : (size : ℕ) {before after also : List ℕ} → Untouched size before after → Untouched size before also → ((q : ℕ) → q < size → getD after q 0 ≡ getD also q 0) → after ≡ also
+untouched-unique size {before} {after} {also} a b low = ext-getD 0 after also (a .long ∙ sym (b .long)) (λ q h. go q (decLt q size))
+  where
+    go : (q : ℕ) → Dec (q < size) → getD after q 0 ≡ getD also q 0
+    go q (yes h) = low q h
+    go q (no h) = a .same q (omega arith) ∙ sym (b .same q (omega arith))
 
 -- a part of a region
 pub region-part : {p at len : ℕ} (by : ℕ) {short : ℕ} {xs : List ℕ} → by + short ≤ len → Region p at len xs → Region p (at + by) short xs

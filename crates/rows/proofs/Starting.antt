@@ -2,10 +2,9 @@
 use mathlib.Core.Path.{_≡_, sym, ap₂, _∙_}
 use mathlib.Core.List.{List}
 use Prim.Native.Nat.{ℕ, _<_}
-use native.Mathlib.Decide.{ℕ-discrete, decLt}
+use native.Mathlib.Decide.{ℕ-discrete}
 use native.Mathlib.Omega.{arith}
 use lib.ListN.{length, getD}
-use lib.Seq.{ext-getD}
 use Rattle.field.specs.Ring.{Ring}
 use Rattle.field.specs.Symbols.{symbols}
 use Rattle.field.proofs.SymbolLaws.{symbols-field}
@@ -23,6 +22,7 @@ use Rattle.rows.specs.declared.Note.{Note}
 use Rattle.rows.specs.declared.Shape.{Shape}
 use Rattle.rows.specs.declared.Started.{Started}
 use Rattle.rows.proofs.Places.{in-rows}
+use Rattle.rows.proofs.Regions.{untouched-unique}
 use Rattle.rows.proofs.Accepted.{Accepted, start-accepted}
 
 module _ {p : ℕ} {points word : List ℕ} {k m l : ℕ} {rows : List ℕ} (a : Accepted p points word k m l rows) where
@@ -52,9 +52,8 @@ module _ {p : ℕ} {points word : List ℕ} {k m l : ℕ} {before : List ℕ} wh
       both : back .note ≡ other .note → back ≡ other
       both e = ap₂ (λ (x : ℕ) (y : Note). record { number = x; note = y }) same e
 
-      byte : back .number ≡ 0 → (q : ℕ) → Dec (q < rowsBytes (shape p (length points) k m l)) → getD after q 0 ≡ getD also q 0
-      byte z q (no h) = f .rest .same q (omega arith) ∙ sym (g .rest .same q (omega arith))
-      byte z q (yes h) =
+      byte : back .number ≡ 0 → (q : ℕ) → q < rowsBytes (shape p (length points) k m l) → getD after q 0 ≡ getD also q 0
+      byte z q h =
           let a : Accepted p points word k m l before = start-accepted (f .first) z in
           let P = a .places in
           let t = interpolate (symbols-field p (P .size)) (length points) (symbolsOf p points) (symbolsOf p word) (places-distinct P) in
@@ -64,7 +63,7 @@ module _ {p : ℕ} {points word : List ℕ} {k m l : ℕ} {before : List ℕ} wh
           ∙ sym (g .rows (sym same ∙ z) (t .0) (t .1) (r .row) (r .power) (r .degree) (r .inside) (r .low) (r .short)))
 
       go : Dec (back .number ≡ 0) → (back ≡ other) × (after ≡ also)
-      go (yes z) = (both (f .note z ∙ sym (g .note (sym same ∙ z))), ext-getD 0 after also (f .rest .long ∙ sym (g .rest .long)) (λ q h. byte z q (decLt q (rowsBytes (shape p (length points) k m l)))))
+      go (yes z) = (both (f .note z ∙ sym (g .note (sym same ∙ z))), untouched-unique (rowsBytes (shape p (length points) k m l)) (f .rest) (g .rest) (byte z))
       go (no z) =
           let x = f .refused z in
           let y = g .refused (λ e. z (same ∙ e)) in

@@ -2,10 +2,8 @@
 use mathlib.Core.Path.{_≡_, sym, ap, ap₂, _∙_}
 use mathlib.Core.List.{List}
 use Prim.Native.Nat.{ℕ, _<_}
-use native.Mathlib.Decide.{ℕ-discrete, decLt}
-use native.Mathlib.Omega.{arith}
+use native.Mathlib.Decide.{ℕ-discrete}
 use lib.ListN.{getD}
-use lib.Seq.{ext-getD}
 use Rattle.field.specs.Symbols.{symbols}
 use Rattle.poly.proofs.TableLaws.{first-determined}
 use Rattle.rows.specs.Turns.{Outcome}
@@ -16,6 +14,7 @@ use Rattle.rows.specs.declared.Turned.{Turned}
 use Rattle.rows.specs.declared.Made.{Made}
 use Rattle.rows.proofs.Turns.{turn-determined as rule-determined}
 use Rattle.rows.proofs.Places.{in-rows}
+use Rattle.rows.proofs.Regions.{untouched-unique}
 
 turned-same : {a b : Turned} → a .number ≡ b .number → a .note ≡ b .note → a .updates ≡ b .updates → a ≡ b
 turned-same {a} {b} n m u =
@@ -54,17 +53,13 @@ module _ {note : Note} {allowance : ℕ} {before : List ℕ} where
           let x = f .refused n in
           let y = g .refused (λ e. n (same ∙ e)) in
           (turned-same (x .0 ∙ same ∙ sym (y .0)) (x .1 ∙ sym (y .1)) (x .2 ∙ sym (y .2)), x .3 ∙ sym (y .3))
-      go (yes e) = (goes-same x y, ext-getD 0 after also (f .rest .long ∙ sym (g .rest .long)) (λ q h. byte q (decLt q (rowsBytes (shapeOf note)))))
+      go (yes e) = (goes-same x y, untouched-unique (rowsBytes (shapeOf note)) (f .rest) (g .rest) (λ q k. goes-bytes x y k))
         where
           x : Goes note allowance before after a
           x = f .goes e
 
           y : Goes note allowance before also b
           y = g .goes (sym same ∙ e)
-
-          byte : (q : ℕ) → Dec (q < rowsBytes (shapeOf note)) → getD after q 0 ≡ getD also q 0
-          byte q (yes k) = goes-bytes x y k
-          byte q (no k) = f .rest .same q (omega arith) ∙ sym (g .rest .same q (omega arith))
 
   -- so are two outcomes of a turn in place
   pub in-place-determined : {after also : List ℕ} {m k : Made} {o p : Note} → HasTurned note allowance before after (withNote m o) → HasTurned note allowance before also (withNote k p)

@@ -1,5 +1,5 @@
 -- `rows::fill::fill` meets its contract. The loop's invariant: the rows before row i are in place, and the bytes from there on are zero.
-use mathlib.Core.Path.{sym, _∙_}
+use mathlib.Core.Path.{sym}
 use mathlib.Core.Logic.{⊎-elim}
 use mathlib.Core.List.{List}
 use Prim.Native.Nat.{ℕ, suc, _-_, _≤_, _<_}
@@ -10,6 +10,7 @@ use borrow.Author.Needs.{needs}
 use Rattle.poly.proofs.BufferLaws.{take-rest}
 use Rattle.rows.specs.Bytes.{rowsBytes}
 use Rattle.rows.specs.Filling.{RaisesRow}
+use Rattle.rows.proofs.Regions.{untouched-then}
 use Rattle.rows.proofs.FilledRows.{RowsFilled, toFill, filled-none, filled-begins, filled-bare, filled-low, filled-high, filled-all, h-below, e-below}
 use Rattle.rows.proofs.fill.fill.Statement.{statement}
 use Rattle.rows.proofs.fill.fill.Tie as tie
@@ -110,7 +111,7 @@ returns c =
     let l = c .before .before in
     let v = l .loop .inv .1 in
     let u = first (l .before .before .before) .rest in
-    (rw (take-rest 32 (s l .args .work .now)) at (filled-all (c .if1 .left) v), record { long = v .rest .long ∙ u .long; same = λ q k. v .rest .same q k ∙ u .same q k })
+    (rw (take-rest 32 (s l .args .work .now)) at (filled-all (c .if1 .left) v), untouched-then u (v .rest))
 
 pub fill-spec : {M : Type 1} → statement M
 fill-spec =
