@@ -83,19 +83,18 @@ subtracted-elsewhere S c from r d xs h q o = subtracted-outside (S .p) c (r * cu
     away (inl a) = inl (omega arith)
     away (inr a) = let b = slot-inside S {j = zero} {e = S .width} (omega arith) (omega arith) in inr (omega arith)
 
--- bytes below p stay below p
-pub subtracted-keeps : {p : ℕ} → Listed p → (c to from len : ℕ) (xs : List ℕ) → to + len ≤ length xs → (q : ℕ) → getD xs q 0 < p → getD (subtracted p c to from len xs) q 0 < p
-subtracted-keeps {p} l c to from len xs room q b = go (decLt q to) (decLt q (to + len))
+-- bytes below p stay below p, if those in a region come to be so and the others are kept
+below-keeps : {p : ℕ} (at len : ℕ) (xs ys : List ℕ) → ((q : ℕ) → (q < at) ⊎ (at + len ≤ q) → getD ys q 0 ≡ getD xs q 0) → ((i : ℕ) → i < len → getD ys (at + i) 0 < p) → (q : ℕ) → getD xs q 0 < p → getD ys q 0 < p
+below-keeps {p} at len xs ys same new q b = go (decLt q at) (decLt q (at + len))
   where
-    go : Dec (q < to) → Dec (q < to + len) → getD (subtracted p c to from len xs) q 0 < p
-    go (yes h) k = rw (subtracted-outside p c to from xs len q (inl h)) b
-    go (no h) (yes k) = let i : to + (q - to) ≡ q = omega arith in rw i at (subtracted-below p c to from xs len (q - to) room (omega arith) l)
-    go (no h) (no k) = rw (subtracted-outside p c to from xs len q (inr (omega arith))) b
+    go : Dec (q < at) → Dec (q < at + len) → getD ys q 0 < p
+    go (yes h) k = rw (same q (inl h)) b
+    go (no h) (yes k) = let i : at + (q - at) ≡ q = omega arith in rw i at (new (q - at) (omega arith))
+    go (no h) (no k) = rw (same q (inr (omega arith))) b
+
+pub subtracted-keeps : {p : ℕ} → Listed p → (c to from len : ℕ) (xs : List ℕ) → to + len ≤ length xs → (q : ℕ) → getD xs q 0 < p → getD (subtracted p c to from len xs) q 0 < p
+subtracted-keeps {p} l c to from len xs room =
+    below-keeps to len xs (subtracted p c to from len xs) (subtracted-outside p c to from xs len) (λ i k. subtracted-below p c to from xs len i room k l)
 
 pub scaled-keeps : {p : ℕ} → Listed p → (c at len : ℕ) (xs : List ℕ) → at + len ≤ length xs → (q : ℕ) → getD xs q 0 < p → getD (scaled p c at len xs) q 0 < p
-scaled-keeps {p} l c at len xs room q b = go (decLt q at) (decLt q (at + len))
-  where
-    go : Dec (q < at) → Dec (q < at + len) → getD (scaled p c at len xs) q 0 < p
-    go (yes h) k = rw (scaled-outside p c at xs len q (inl h)) b
-    go (no h) (yes k) = let i : at + (q - at) ≡ q = omega arith in rw i at (scaled-below p c at xs len (q - at) room (omega arith) l)
-    go (no h) (no k) = rw (scaled-outside p c at xs len q (inr (omega arith))) b
+scaled-keeps {p} l c at len xs room = below-keeps at len xs (scaled p c at len xs) (scaled-outside p c at xs len) (λ i k. scaled-below p c at xs len i room k l)
