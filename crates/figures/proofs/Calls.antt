@@ -3,15 +3,14 @@
 use mathlib.Core.Path.{_≡_, refl, sym, ap, _∙_}
 use mathlib.Core.Logic.{_≢_}
 use mathlib.Core.List.{List}
-use Prim.Native.Nat.{ℕ, suc, _-_, _+_, _*_, _≤_, _<_, min, zero-le}
-use native.Mathlib.Nat.{zero-mod}
-use native.Mathlib.Decide.{ℕ-discrete, decLt}
+use Prim.Native.Nat.{ℕ, suc, _-_, _+_, _*_, _≤_, min, zero-le}
+use native.Mathlib.Decide.{ℕ-discrete}
 use native.Mathlib.Omega.{arith}
 use lib.ListN.{length, getD, take}
 use lib.Seq.{ext-getD, getD-take, length-take-le}
 use Rattle.field.specs.Field.{FieldLaws}
 use Rattle.field.specs.Symbols.{symbols}
-use Rattle.field.proofs.SymbolLaws.{byte-symbol, symbols-field}
+use Rattle.field.proofs.SymbolLaws.{symbols-field, zero-byte}
 use Rattle.poly.specs.Polynomials.{Seq, Through, locator}
 use Rattle.poly.specs.Encode.{symbolsOf}
 use Rattle.poly.proofs.Interpolating.{places-distinct}
@@ -39,6 +38,7 @@ use Rattle.rows.proofs.Runs.{fresh-enters}
 use Rattle.rows.proofs.Accepted.{Accepted, start-accepted}
 use Rattle.rows.proofs.Passing.{begins-start, run-smallest}
 use Rattle.rows.proofs.Demands.{demand-2, demand-3}
+use Rattle.rows.proofs.Finishing.{height-unique}
 use Rattle.figures.specs.Figures.{Calls, Gives}
 
 module _ (q : Request) where
@@ -171,19 +171,18 @@ module _ {q : Request} (c : Calls q) (ok : c .start .number ≡ 0) where
     same : calls-hand .Q ≡ curveFor calls-accepted z
     same = sym (calls-hand .only (curveFor calls-accepted z) smallest)
 
-    height : {j : ℕ} → HasHeight (q .p) (curveFor calls-accepted z) j → j ≡ q .l
-    height {j} x = go (decLt j (q .l)) (decLt (q .l) j)
-      where
-        go : Dec (j < q .l) → Dec (q .l < j) → j ≡ q .l
-        go (yes a) b = absurd (z .top (z .holds (q .l) 0 (omega arith) zero-le ∙ rw (x .above (q .l) 0 a) (byte-symbol (q .p) 0 ∙ zero-mod (q .p))))
-        go (no a) (yes b) = absurd (x .some .1 (smallest .member .height j (x .some .0) b))
-        go (no a) (no b) = omega arith
+    height : HasHeight (q .p) (curveFor calls-accepted z) (q .l)
+    height =
+        record {
+          above = smallest .member .height;
+          some = (0, λ e. z .top (z .holds (q .l) 0 (omega arith) zero-le ∙ rw e (zero-byte (q .p))));
+        }
 
     pub calls-give : Gives c made weight (q .l) bytes
     calls-give =
         record {
           start = started-same ok (c .starts .note ok);
           turn = turned;
-          finish = finished-same (calls-hand .done) (calls-hand .weight ∙ weight-unique (calls-hand .smallest) smallest ∙ worked-smallest calls-accepted z .1) (height (rw same at (calls-hand .height)));
+          finish = finished-same (calls-hand .done) (calls-hand .weight ∙ weight-unique (calls-hand .smallest) smallest ∙ worked-smallest calls-accepted z .1) (height-unique (rw same at (calls-hand .height)) height);
           curve = let r = c .curve-room in let l = c .finishes .rest .long in curve-bytes (shapeFor q) (curveFor calls-accepted z) (c .curve) bytes (omega arith) (z .long) (rw same at (calls-hand .bytes)) (z .holds);
         }

@@ -57,7 +57,7 @@ module _ {R : Ring} {u l : ℕ} {rows : ℕ → Curve R} where
       let b1 = b .1 (omega arith) in
       (omega arith, omega arith)
 
-height-unique : {p : ℕ} {Q : Curve (symbols p .ring)} {j k : ℕ} → HasHeight p Q j → HasHeight p Q k → j ≡ k
+pub height-unique : {p : ℕ} {Q : Curve (symbols p .ring)} {j k : ℕ} → HasHeight p Q j → HasHeight p Q k → j ≡ k
 height-unique {p} {Q} {j} {k} a b = go (decLt j k) (decLt k j)
   where
     go : Dec (j < k) → Dec (k < j) → j ≡ k
