@@ -1,5 +1,5 @@
 -- Bytes and the polynomials that they stand for.
-use mathlib.Core.Path.{_≡_, sym, ap, _∙_, fun-ext}
+use mathlib.Core.Path.{_≡_, sym, ap, fun-ext}
 use mathlib.Core.List.{List}
 use Prim.Native.Nat.{ℕ, suc, _+_, _-_, _≤_, _<_}
 use native.Mathlib.Nat.{zero-add, add-zero}
@@ -12,8 +12,8 @@ use Rattle.field.specs.Operations.{plusBytes, timesBytes}
 use Rattle.field.proofs.SymbolLaws.{symbol-byte, zero-byte}
 use Rattle.field.proofs.OperationLaws.{symbol-timesBytes}
 use Rattle.poly.specs.Polynomials.{Seq, tail, Below, value}
-use Rattle.poly.specs.Encode.{symbolsOf, valueAt}
-use Rattle.poly.specs.Buffers.{AllBelow, from}
+use Rattle.poly.specs.Encode.{symbolsOf}
+use Rattle.poly.specs.Buffers.{AllBelow}
 
 module _ (p : ℕ) (xs : List ℕ) where
   -- the bytes of xs are the coefficients of f
@@ -23,12 +23,6 @@ module _ (p : ℕ) (xs : List ℕ) where
       go : (i : ℕ) → Dec (i < length xs) → symbol p (getD xs i 0) ≡ f i
       go i (yes l) = rw (is i l) (symbol-byte p (f i))
       go i (no l) = rw (List·getD-eq-default xs 0 {n = i} (omega arith)) (sym (short i (omega arith)))
-
-  from-start : from p xs 0 ≡ symbolsOf p xs
-  from-start = fun-ext (λ i. ap (λ (n : ℕ). symbol p (getD xs n 0)) (zero-add i))
-
-  from-tail : (at : ℕ) → tail (symbols p .ring) (from p xs at) ≡ from p xs (suc at)
-  from-tail at = fun-ext (λ i. ap (λ (n : ℕ). symbol p (getD xs n 0)) (omega arith))
 
 -- parts of a buffer
 module _ (n : ℕ) (xs : List ℕ) where
@@ -41,22 +35,21 @@ module _ (n : ℕ) (xs : List ℕ) where
   pub take-rest : take (length xs - n) (drop n xs) ≡ drop n xs
   take-rest = take-all (length xs - n) (drop n xs) (let l = length-drop n xs in omega arith)
 
--- Horner's rule, from the last coefficient on: the value of those from byte i on
-module _ (p : ℕ) (xs : List ℕ) (a : ℕ) where
+-- Horner's rule, from the last coefficient on: the value of those from i on
+module _ (p a n : ℕ) (f : Seq (symbols p .ring)) where
   abbrev pub horner : ℕ → Element p
-  horner i = value (symbols p .ring) (symbol p a) (length xs - i) (from p xs i)
+  horner i = value (symbols p .ring) (symbol p a) (n - i) (λ j. f (i + j))
 
-  pub horner-none : horner (length xs) .byte ≡ 0
+  pub horner-none : horner n .byte ≡ 0
   unfolding value
-  horner-none = let z : length xs - length xs ≡ 0 = omega arith in rw z (zero-byte p)
+  horner-none = let z : n - n ≡ 0 = omega arith in rw z (zero-byte p)
 
-  pub horner-more : (i : ℕ) → 0 < i → i ≤ length xs → plusBytes p (getD xs (i - 1) 0) (timesBytes p a (horner i .byte)) ≡ horner (i - 1) .byte
+  pub horner-more : (b i : ℕ) → 0 < i → i ≤ n → symbol p b ≡ f (i - 1) → plusBytes p b (timesBytes p a (horner i .byte)) ≡ horner (i - 1) .byte
   unfolding plusBytes value
-  horner-more i some within =
-      let n : length xs - (i - 1) ≡ suc (length xs - i) = omega arith in
-      let j : suc (i - 1) ≡ i = omega arith in
-      let t : tail (symbols p .ring) (from p xs (i - 1)) ≡ from p xs i = from-tail p xs (i - 1) ∙ ap (from p xs) j in
-      rw (n, t, plusBytes, symbol-timesBytes, symbol-byte, add-zero)
+  horner-more b i some within e =
+      let m : n - (i - 1) ≡ suc (n - i) = omega arith in
+      let t : tail (symbols p .ring) (λ j. f (i - 1 + j)) ≡ (λ j. f (i + j)) = fun-ext (λ j. ap f (omega arith)) in
+      rw (m, t, plusBytes, symbol-timesBytes, symbol-byte, e, add-zero)
 
-  pub horner-all : horner 0 ≡ valueAt p xs a
-  horner-all = let z : length xs - 0 ≡ length xs = omega arith in rw (z, from-start p xs)
+  pub horner-all : horner 0 ≡ value (symbols p .ring) (symbol p a) n f
+  horner-all = let z : n - 0 ≡ n = omega arith in let t : _≡_ {A = Seq (symbols p .ring)} (λ j. f (0 + j)) f = fun-ext (λ j. ap f (zero-add j)) in rw (z, t)

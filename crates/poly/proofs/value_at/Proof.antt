@@ -1,16 +1,17 @@
 -- `value_at` meets its contract: the sum is the value of the coefficients from i on. Assumes nothing.
-use mathlib.Core.Path.{_≡_, sym, _∙_}
+use mathlib.Core.Path.{_≡_, refl, sym, _∙_}
 use Prim.Native.Nat.{_≤_, _-_}
 use lib.ListN.{length}
 use borrow.Author.Needs.{needs}
 use Rattle.field.proofs.SymbolLaws.{byte-below}
 use Rattle.field.proofs.OperationLaws.{timesBytes-below}
+use Rattle.poly.specs.Encode.{symbolsOf}
 use Rattle.poly.proofs.BufferLaws.{horner, horner-none, horner-more, horner-all}
 use Rattle.poly.proofs.value_at.Statement.{statement}
 use Rattle.poly.proofs.value_at.Tie as tie
 
 abbrev Inv-loop : tie.InvT-loop
-Inv-loop coefficients a p x sum₀ i₀ sum i = (i ≤ length coefficients) × (sum .value ≡ horner p coefficients a i .byte)
+Inv-loop coefficients a p x sum₀ i₀ sum i = (i ≤ length coefficients) × (sum .value ≡ horner p a (length coefficients) (symbolsOf p coefficients) i .byte)
 
 abbrev μ-loop : tie.MeasureT-loop
 μ-loop coefficients a p x sum₀ i₀ sum i = i
@@ -18,7 +19,7 @@ abbrev μ-loop : tie.MeasureT-loop
 loop-holds : tie.Need-loop-holds Inv-loop μ-loop
 loop-holds c =
     let s = c .before .args in
-    (search needs, sym (horner-none (s .p) (s .coefficients .now) (s .a)))
+    (search needs, sym (horner-none (s .p) (s .a) (length (s .coefficients .now)) (symbolsOf (s .p) (s .coefficients .now))))
 
 sub-i : tie.Need-sub-i Inv-loop μ-loop
 sub-i c = search needs
@@ -30,7 +31,7 @@ product-requires : tie.Need-product-requires Inv-loop μ-loop
 product-requires c κs =
     let l = c .before .before in
     let s = l .before .before in
-    record { size = s .pre .size; left = s .pre .point; right = rw (l .loop .inv .1) (byte-below (s .pre .size) (horner (s .args .p) (s .args .coefficients .now) (s .args .a) (l .loop .i))) }
+    record { size = s .pre .size; left = s .pre .point; right = rw (l .loop .inv .1) (byte-below (s .pre .size) (horner (s .args .p) (s .args .a) (length (s .args .coefficients .now)) (symbolsOf (s .args .p) (s .args .coefficients .now)) (l .loop .i))) }
 
 sum-requires : tie.Need-sum-requires Inv-loop μ-loop
 sum-requires c κs =
@@ -49,13 +50,13 @@ loop-again : tie.Need-loop-again Inv-loop μ-loop
 loop-again c =
     let l = c .before .before .before .before in
     let s = l .before .before .args in
-    (search needs, c .sum .ensures ∙ rw (c .before .product .ensures, l .loop .inv .1) (horner-more (s .p) (s .coefficients .now) (s .a) (l .loop .i) (search needs) (search needs)))
+    (search needs, c .sum .ensures ∙ rw (c .before .product .ensures, l .loop .inv .1) (horner-more (s .p) (s .a) (length (s .coefficients .now)) (symbolsOf (s .p) (s .coefficients .now)) _ (l .loop .i) (search needs) (search needs) refl))
 
 returns : tie.Need-returns Inv-loop μ-loop
 returns c =
     let s = c .before .before .before .args in
     let z : c .before .loop .i ≡ 0 = search needs in
-    c .before .loop .inv .1 ∙ rw (z, horner-all (s .p) (s .coefficients .now) (s .a))
+    c .before .loop .inv .1 ∙ rw (z, horner-all (s .p) (s .a) (length (s .coefficients .now)) (symbolsOf (s .p) (s .coefficients .now)))
 
 pub value-at-spec : {M : Type 1} → statement M
 value-at-spec =

@@ -5,11 +5,11 @@ use native.Mathlib.Numerals.{add-one}
 use borrow.Author.Tests.{eqb-true, eqb-false}
 use borrow.Author.Needs.{needs}
 use Rattle.field.specs.Symbols.{symbol, symbols}
-use Rattle.field.proofs.SymbolLaws.{byte-below, byte-zero, zero-is}
+use Rattle.field.proofs.SymbolLaws.{byte-below, byte-zero, zero-is, symbol-byte}
 use Rattle.field.proofs.OperationLaws.{timesBytes-below}
 use Rattle.poly.specs.Polynomials.{value}
+use Rattle.poly.proofs.BufferLaws.{horner, horner-none, horner-more, horner-all}
 use Rattle.near.specs.Work.{sliceOf}
-use Rattle.near.proofs.Tests.{horner, horner-none, horner-more, horner-all}
 use Rattle.near.proofs.search.fits.Statement.{statement}
 use Rattle.near.proofs.search.fits.Tie as tie
 
@@ -26,7 +26,7 @@ add-j c = let h = c .before .before .pre .laid .fine .high in search needs
 loop-holds : tie.Need-loop-holds Inv-loop μ-loop
 loop-holds c =
     let s = c .before .before .args in
-    (search needs, rw add-one (sym (byte-zero (s .plan .p) (horner-none (s .plan .p) (s .c) (suc (s .plan .l)) (sliceOf (s .plan) (s .curve .now) (s .i) (s .low))))))
+    (search needs, rw add-one (sym (horner-none (s .plan .p) (s .c) (suc (s .plan .l)) (sliceOf (s .plan) (s .curve .now) (s .i) (s .low)))))
 
 sub-j : tie.Need-sub-j Inv-loop μ-loop
 sub-j c = search needs
@@ -57,7 +57,7 @@ loop-again : tie.Need-loop-again Inv-loop μ-loop
 loop-again c =
     let l = c .before .before .before .before in
     let s = l .before .before .before .args in
-    (search needs, c .sum .ensures ∙ rw (c .before .product .ensures, c .before .before .symbol-at .ensures, l .loop .inv .1) (horner-more (s .plan .p) (s .c) (suc (s .plan .l)) (sliceOf (s .plan) (s .curve .now) (s .i) (s .low)) (l .loop .j) (search needs) (search needs)))
+    (search needs, c .sum .ensures ∙ rw (c .before .product .ensures, c .before .before .symbol-at .ensures, l .loop .inv .1) (horner-more (s .plan .p) (s .c) (suc (s .plan .l)) (sliceOf (s .plan) (s .curve .now) (s .i) (s .low)) _ (l .loop .j) (search needs) (search needs) (symbol-byte (s .plan .p) _)))
 
 returns : tie.Need-returns Inv-loop μ-loop
 returns c =
