@@ -1,11 +1,11 @@
 -- Which symbols fit. Below its least v the slices of T are zero, and there it is not, if T is not zero: so a root of the slice at v is
 -- a symbol that fits, as the document says it. A root's next symbol is one.
 use mathlib.Core.Path.{_≡_, refl, sym, ap, _∙_, fun-ext}
-use mathlib.Core.Bool.{Bool, true, false}
+use mathlib.Core.Bool.{Bool, true, false, true≢false}
 use Prim.Native.Nat.{ℕ, zero, suc, _+_, _-_, _*_, _≤_, _<_, zero-le}
 use native.Mathlib.Nat.{add-sub-cancel, mul-le-mul-right}
 use native.Mathlib.Omega.{arith}
-use native.Mathlib.Decide.{decLe, decLt, ℕ-discrete}
+use native.Mathlib.Decide.{decLe, decLt}
 use Rattle.field.specs.Ring.{Ring, RingLaws}
 use Rattle.field.specs.Field.{Field, FieldLaws}
 use Rattle.poly.specs.Polynomials.{Seq, zeroS, addS, negS, mulS, Series, Below, value}
@@ -13,12 +13,13 @@ use Rattle.poly.proofs.Series.{series, zeroS-at}
 use Rattle.poly.proofs.Shift.{shift, shift-null, shift-back, below-shift}
 use Rattle.poly.proofs.Orders.{Ord}
 use Rattle.rows.specs.Curves.{Curve, Height, Zero, Under, Lead}
-use Rattle.rows.specs.Turns.{choose, mono}
+use Rattle.rows.specs.Turns.{mono}
 use Rattle.rows.proofs.Heights.{zero-at, height-below, below-height}
 use Rattle.rows.proofs.Leads.{under-mono, lead-nonzero}
 use Rattle.near.specs.Search.{Fits, slice, least, some?, lowest}
 use Rattle.near.proofs.Weights.{under-shift}
 use Rattle.near.proofs.Steps.{slice-at, slice-beyond, line-slice, root-symbol}
+use Rattle.near.proofs.Tests.{some-none, some-one}
 
 -- all before the least fail, and the least passes
 record Least (W : ℕ) (test : ℕ → Bool) (v : ℕ) : Type 0 where
@@ -44,23 +45,14 @@ least-is (suc W) test = go (test 0) refl (least-is W (λ v. test (suc v)))
 
 module _ (F : Field) where
   some-false : (N : ℕ) (f : Seq (F .ring)) → some? F N f ≡ false → Ord (F .ring) N f
-  unfolding some?
-  some-false zero f e j l = absurd (omega arith)
-  some-false (suc N) f e j l = go (F .same? (f N) (F .ring .𝟘)) e (λ d. some-false N f d) (ℕ-discrete j N)
+  some-false N f e j l = go (F .same? (f j) (F .ring .𝟘))
     where
-      go : (d : Dec (f N ≡ F .ring .𝟘)) → choose d (some? F N f) true ≡ false → (some? F N f ≡ false → Ord (F .ring) N f) → Dec (j ≡ N) → f j ≡ F .ring .𝟘
-      go (yes z) e ih (yes q) = rw q z
-      go (yes z) e ih (no q) = ih e j (omega arith)
-      go (no z) e ih q = absurd (let b : _≡_ {A = ℕ} 0 1 = cc in omega arith)
+      go : Dec (f j ≡ F .ring .𝟘) → f j ≡ F .ring .𝟘
+      go (yes z) = z
+      go (no z) = absurd (true≢false (sym (some-one F N f j l z) ∙ e))
 
   some-true : (N : ℕ) (f : Seq (F .ring)) → some? F N f ≡ true → Ord (F .ring) N f → ⊥
-  unfolding some?
-  some-true zero f e o = let b : _≡_ {A = ℕ} 0 1 = cc in omega arith
-  some-true (suc N) f e o = go (F .same? (f N) (F .ring .𝟘)) e (λ d. some-true N f d (λ i l. o i (omega arith)))
-    where
-      go : (d : Dec (f N ≡ F .ring .𝟘)) → choose d (some? F N f) true ≡ true → (some? F N f ≡ true → ⊥) → ⊥
-      go (yes z) e ih = ih e
-      go (no z) e ih = z (o N (omega arith))
+  some-true N f e o = true≢false (sym e ∙ some-none F N f o)
 
 module _ (R : Ring) where
   -- the slices of T begin at v
