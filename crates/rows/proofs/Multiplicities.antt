@@ -2,11 +2,11 @@
 -- finiteness is said, and the curves of demand 2 are closed under sums and under multiples by polynomials in x. The theory has a
 -- multiplicity for each place; demand 2 has the same one for all.
 use mathlib.Core.Path.{_≡_, sym, ap, _∙_, fun-ext}
-use Prim.Native.Nat.{ℕ, zero, suc, _+_, _-_, _<_}
+use Prim.Native.Nat.{ℕ, suc, _+_, _-_, _<_}
 use native.Mathlib.Omega.{arith}
 use Rattle.field.specs.Ring.{Ring, RingLaws, pow, multiple, sum}
 use Rattle.field.proofs.RingLaws.{add-zero, mul-zero}
-use Rattle.field.proofs.Sums.{sum-zero, sum-suc, sum-cong}
+use Rattle.field.proofs.Sums.{sum-cong}
 use Rattle.poly.specs.Polynomials.{Seq, Series, addS, mulS, scaleS, zeroS, constS, Below, binomial}
 use Rattle.poly.proofs.Series.{series, addS-at, scaleS-at, sum-at, multiple-at}
 use Rattle.poly.proofs.Constants.{mul-const, const-pow}
@@ -17,6 +17,7 @@ use Rattle.poly.proofs.Binomials.{part, shift-binomial}
 use Rattle.rows.specs.Curves.{Curve, Finite, Height, times, Span}
 use Rattle.rows.specs.Multiplicity.{shifted, Multiplicity, Passing}
 use Rattle.rows.proofs.Heights.{zero-at, height-below, below-height}
+use Rattle.rows.proofs.Spans.{span-closed}
 use Rattle.rows.proofs.Along.{moved}
 
 module _ (R : Ring) where
@@ -151,9 +152,5 @@ module _ {R : Ring} (L : RingLaws R) where
             rw (scaleS-at (Series R) (shift R (a s) D q) A u)
             (λ i t. ord-mul L 0 (ms s - u) (shift R (a s) D q) (A u) (λ j w. absurd (omega arith)) (multiplicity-vanish (ms s) M (suc l) (a s) (v s) Q (p .multiplicity s k) u) i (omega arith))
 
-    each-sum : (k : ℕ) (f : ℕ → Curve R) → ((i : ℕ) → i < k → PassingEach R n ms l a v (f i)) → PassingEach R n ms l a v (sum (Series (Series R)) k f)
-    each-sum zero f h = rw (sum-zero (Series (Series R)) f) each-zero
-    each-sum (suc k) f h = rw (sum-suc (Series (Series R)) k f) (each-add (each-sum k f (λ i q. h i (omega arith))) (h k (omega arith)))
-
     pub each-span : {k : ℕ} {rows : ℕ → Curve R} {Q : Curve R} → ((i : ℕ) → i < k → PassingEach R n ms l a v (rows i)) → Span R k rows Q → PassingEach R n ms l a v Q
-    each-span {k} {rows} h c = rw (c .is) (each-sum k (λ i. times R (c .factor i) (rows i)) (λ i q. each-times (c .finite i .0) (c .factor i) (c .finite i .1) (h i q)))
+    each-span {k} {rows} = span-closed L each-zero (λ P Q. each-add {P = P} {Q = Q}) (λ N f P. each-times {Q = P} N f) k rows

@@ -63,6 +63,16 @@ module _ {R : Ring} (L : RingLaws R) where
   times-over p (suc n) f =
       rw (sum-suc (Series (Series R)) n f, sum-suc (Series (Series R)) n (λ i. times R p (f i)), times-plus p (sum (Series (Series R)) n f) (f n), times-over p n f)
 
+  -- a set that has zero and that sums and multiples by polynomials do not leave has, with some curves, all that they span
+  module _ {Member : Curve R → Type 0} (null : Member 𝟘₂) (plus : (P Q : Curve R) → Member P → Member Q → Member (P ⊞ Q))
+      (scaled : (N : ℕ) (f : Seq R) (P : Curve R) → Below R N f → Member P → Member (times R f P)) where
+    sum-closed : (m : ℕ) (f : ℕ → Curve R) → ((i : ℕ) → i < m → Member (f i)) → Member (sum (Series (Series R)) m f)
+    sum-closed zero f h = rw (sum-zero (Series (Series R)) f) null
+    sum-closed (suc m) f h = rw (sum-suc (Series (Series R)) m f) (plus _ _ (sum-closed m f (λ i l. h i (omega arith))) (h m (omega arith)))
+
+    pub span-closed : (m : ℕ) (rows : ℕ → Curve R) {Q : Curve R} → ((i : ℕ) → i < m → Member (rows i)) → Span R m rows Q → Member Q
+    span-closed m rows h q = rw (q .is) (sum-closed m (λ i. times R (q .factor i) (rows i)) (λ i l. scaled (q .finite i .0) (q .factor i) (rows i) (q .finite i .1) (h i l)))
+
   module _ {n : ℕ} {rows : ℕ → Curve R} where
     pub span-zero : Span R n rows 𝟘₂
     span-zero =
@@ -108,13 +118,9 @@ module _ {R : Ring} (L : RingLaws R) where
         is : ⊟ Q ≡ times R (mono R (⊖ 𝟙) 0) Q
         is = fun-ext (λ j. fun-ext (at j))
 
-    span-sum : (m : ℕ) (f : ℕ → Curve R) → ((i : ℕ) → i < m → Span R n rows (f i)) → Span R n rows (sum (Series (Series R)) m f)
-    span-sum zero f h = rw (sum-zero (Series (Series R)) f) span-zero
-    span-sum (suc m) f h = rw (sum-suc (Series (Series R)) m f) (span-add (span-sum m f (λ i l. h i (omega arith))) (h m (omega arith)))
-
     -- what is in the span of members is in the span
     pub span-trans : (m : ℕ) (others : ℕ → Curve R) {Q : Curve R} → ((i : ℕ) → i < m → Span R n rows (others i)) → Span R m others Q → Span R n rows Q
-    span-trans m others h q = rw (q .is) (span-sum m (λ i. times R (q .factor i) (others i)) (λ i l. span-times (q .finite i .0) (q .factor i) (q .finite i .1) (h i l)))
+    span-trans = span-closed span-zero (λ P Q. span-add {P = P} {Q = Q}) (λ N f P. span-times N f {P = P})
 
     pub span-row : (k : ℕ) → k < n → Span R n rows (rows k)
     span-row k l =
