@@ -1,16 +1,16 @@
 -- What stands where after a row kernel.
-use mathlib.Core.Path.{_≡_, refl, sym, ap, _∙_}
+use mathlib.Core.Path.{_≡_, sym, _∙_}
 use mathlib.Core.List.{List}
 use mathlib.Core.Logic.{_⊎_, inl, inr, ⊎-elim}
 use Prim.Native.Nat.{ℕ, zero, suc, _+_, _-_, _*_, _%_, _<_, _≤_}
 use native.Mathlib.Numerals.{add-one}
 use native.Mathlib.Omega.{arith}
 use lib.ListN.{length, getD, set}
-use lib.Seq.{sets, length-sets}
+use lib.Seq.{length-sets}
 use Rattle.field.specs.Lists.{tabulate}
 use Rattle.field.specs.Symbols.{Listed, symbol, sumOf, productOf, negativeOf}
 use Rattle.field.specs.Operations.{minusBytes, timesBytes}
-use Rattle.field.specs.Kernels.{Region, Subtracts, Scales, subtracted, scaled}
+use Rattle.field.specs.Kernels.{Subtracts, Scales, subtracted, scaled}
 use Rattle.field.proofs.Lists.{sets-tabulate-zero, sets-tabulate-suc, sets-tabulate-inside, sets-tabulate-outside}
 use Rattle.field.proofs.OperationLaws.{symbol-minusBytes, symbol-timesBytes, times-mod, minus-times-mod, minusBytes-below, timesBytes-below}
 

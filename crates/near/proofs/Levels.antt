@@ -21,9 +21,9 @@ use Rattle.rows.specs.Curves.{Curve}
 use Rattle.rows.specs.Turns.{choose}
 use Rattle.rows.proofs.Put.{choose-yes, choose-no}
 use Rattle.near.specs.Lists.{Task, Spelt, polynomial, agreements}
-use Rattle.near.specs.Search.{chosen as choice, lowest, fits?, each, level, opened}
+use Rattle.near.specs.Search.{chosen as choice, lowest, fits?, each, level}
 use Rattle.near.specs.Job.{flat}
-use Rattle.near.specs.Work.{curveOf, RootAt, Laid, Tries, Shifted, jobOf, after, with, kept, Searches, Room, Wrote, Leaves, foundOn, Runs, Ran}
+use Rattle.near.specs.Work.{curveOf, RootAt, Tries, Shifted, jobOf, after, with, kept, Searches, Room, Wrote, Leaves, foundOn, Runs, Ran}
 use Rattle.near.specs.declared.search.Plan.{Plan}
 use Rattle.near.proofs.Messages.{spelt-nil}
 use Rattle.near.proofs.Found.{level-zero, level-suc, branch}

@@ -8,7 +8,6 @@ use Rattle.field.specs.Ring.{Ring}
 use Rattle.field.specs.Field.{Field}
 use Rattle.field.specs.Symbols.{Element, symbols}
 use Rattle.field.specs.Operations.{timesBytes, invByte}
-use Rattle.field.proofs.RingTactic.{ring}
 use Rattle.field.proofs.OperationLaws.{symbol-invByte}
 use Rattle.field.proofs.SymbolLaws.{byte-below}
 use Rattle.rows.specs.Curves.{Curve}

@@ -3,7 +3,6 @@ use mathlib.Core.Path.{refl}
 use Prim.Native.Nat.{_*_, _≤_}
 use native.Mathlib.Nat.{mul-le-mul}
 use native.Mathlib.Omega.{arith}
-use borrow.Author.Needs.{needs}
 use Rattle.poly.proofs.wide_product.Statement.{statement}
 use Rattle.poly.proofs.wide_product.Tie as tie
 

@@ -1,5 +1,5 @@
 -- `rows::refuse_start` meets its contract: the request's refusals come first, then that of the lent bytes.
-use mathlib.Core.Path.{_≡_, refl}
+use mathlib.Core.Path.{refl}
 use mathlib.Core.Logic.{inl, inr}
 use mathlib.Core.List.{List}
 use Prim.Native.Nat.{ℕ}

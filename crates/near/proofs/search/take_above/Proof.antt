@@ -1,5 +1,4 @@
 -- `take_above` meets its contract: the kernel takes off the negative of c times the slot above, from x^i on. Assumes nothing.
-use Prim.Native.Nat.{suc, _+_, _*_}
 use native.Mathlib.Numerals.{add-one}
 use native.Mathlib.Omega.{arith}
 use borrow.Author.Needs.{needs}
