@@ -131,6 +131,43 @@ word-taken c = c .before .before .numbers-line2 .ensures .takes .holds (not-fals
 word-goes : (c : tie.Else7) → Goes (text₇ c) 7 (word-next c)
 word-goes c r p = passes listed-plain (word-taken c) (points-goes (c .before .before .before .before) r p) .1
 
+-- the seven lines that were taken, and what they mean
+module _ (word : tie.Else7) where
+  abbrev points : tie.Else6
+  points = word .before .before .before .before
+
+  abbrev t : tie.Else5
+  t = points .before .before .before .before
+
+  abbrev l : tie.Else4
+  l = t .before .before .before .before
+
+  abbrev m : tie.Else3
+  m = l .before .before .before .before
+
+  abbrev k : tie.Else2
+  k = m .before .before .before .before
+
+  abbrev field : tie.Else1
+  field = k .before .before .before .before
+
+  abbrev meaning : Meaning
+  meaning =
+      record {
+        field = field-value field;
+        k = k-value k;
+        m = m-value m;
+        l = l-value l;
+        t = t-value t;
+        points = points-value points;
+        word = word-value word;
+      }
+
+  -- where the text ends after them, they are its reading
+  whole : drop (word-next word) (text₇ word) ≡ [] → Readable (text₇ word) meaning
+  whole end =
+      goes-on (field-taken field) (goes-on (k-taken k) (goes-on (m-taken m) (goes-on (l-taken l) (goes-on (t-taken t) (goes-on (points-taken points) (goes-on (word-taken word) end))))))
+
 slice-aggregate-number-line : tie.Need-slice-aggregate-number-line
 slice-aggregate-number-line c = search needs
 
@@ -232,39 +269,20 @@ returns-8 c = let d = c .before .before .before in
 returns-9 : tie.Need-returns-9
 returns-9 c =
     let word = c .before .before .before .before in
-    let points = word .before .before .before .before in
-    let t = points .before .before .before .before in
-    let l = t .before .before .before .before in
-    let m = l .before .before .before .before in
-    let k = m .before .before .before .before in
-    let field = k .before .before .before .before in
-    let r : Meaning =
-    record {
-      field = field-value field;
-      k = k-value k;
-      m = m-value m;
-      l = l-value l;
-      t = t-value t;
-      points = points-value points;
-      word = word-value word;
-    } in
-    let end : drop (word-next word) (text₇ word) ≡ [] = drop-of-length-le (text₇ word) (c .before .before .if8 .left) in
-    let whole : Readable (text₇ word) r =
-    goes-on (field-taken field) (goes-on (k-taken k) (goes-on (m-taken m) (goes-on (l-taken l) (goes-on (t-taken t) (goes-on (points-taken points) (goes-on (word-taken word) end)))))) in
-    let ps = points .before .before .numbers-line .ensures .kept (not-false _ (points .if6 .left)) in
+    let ps = points word .before .before .numbers-line .ensures .kept (not-false _ (points word .if6 .left)) in
     let ws = word .before .before .numbers-line2 .ensures .kept (not-false _ (word .if7 .left)) in
     subst (HasRead (text₇ word)) (λ i. record {
       ok = true;
-      field = r .field;
-      k = r .k;
-      m = r .m;
-      l = r .l;
-      t = r .t;
+      field = meaning word .field;
+      k = meaning word .k;
+      m = meaning word .m;
+      l = meaning word .l;
+      t = meaning word .t;
       n = sym (ps .counted) i;
       points = sym (ps .padded) i;
       count = sym (ws .counted) i;
       word = sym (ws .padded) i;
-    }) (readable r whole)
+    }) (readable (meaning word) (whole word (drop-of-length-le (text₇ word) (c .before .before .if8 .left))))
 
 pub read-spec : {M : Type 1} → statement M
 read-spec =
