@@ -4,6 +4,7 @@ use mathlib.Core.List.{List}
 use mathlib.Core.Logic.{_⊎_, inl, inr, ⊎-elim}
 use Prim.Native.Nat.{ℕ, zero, suc, _+_, _-_, _*_, _%_, _<_, _≤_}
 use native.Mathlib.Numerals.{add-one}
+use native.Mathlib.Decide.{decLt}
 use native.Mathlib.Omega.{arith}
 use lib.ListN.{length, getD, set}
 use lib.Seq.{length-sets}
@@ -110,3 +111,19 @@ module _ {p c at len : ℕ} {xs ys : List ℕ} (a : Scales p c at len xs) (i : �
   scaled-more {v} d =
       let w : v ≡ times p c at xs i = d ∙ rw scaled-kept (sym (times-mod p c (getD xs (at + i) 0))) in
       rw (add-one, scaled-suc p c at xs i, ← e, ← w)
+
+-- bytes below p stay below p, if those in a region come to be so and the others are kept
+below-keeps : {p : ℕ} (at len : ℕ) (xs ys : List ℕ) → ((q : ℕ) → (q < at) ⊎ (at + len ≤ q) → getD ys q 0 ≡ getD xs q 0) → ((i : ℕ) → i < len → getD ys (at + i) 0 < p) → (q : ℕ) → getD xs q 0 < p → getD ys q 0 < p
+below-keeps {p} at len xs ys same new q b = go (decLt q at) (decLt q (at + len))
+  where
+    go : Dec (q < at) → Dec (q < at + len) → getD ys q 0 < p
+    go (yes h) k = rw (same q (inl h)) b
+    go (no h) (yes k) = let i : at + (q - at) ≡ q = omega arith in rw i at (new (q - at) (omega arith))
+    go (no h) (no k) = rw (same q (inr (omega arith))) b
+
+pub subtracted-keeps : {p : ℕ} → Listed p → (c to from len : ℕ) (xs : List ℕ) → to + len ≤ length xs → (q : ℕ) → getD xs q 0 < p → getD (subtracted p c to from len xs) q 0 < p
+subtracted-keeps {p} l c to from len xs room =
+    below-keeps to len xs (subtracted p c to from len xs) (subtracted-outside p c to from xs len) (λ i k. subtracted-below p c to from xs len i room k l)
+
+pub scaled-keeps : {p : ℕ} → Listed p → (c at len : ℕ) (xs : List ℕ) → at + len ≤ length xs → (q : ℕ) → getD xs q 0 < p → getD (scaled p c at len xs) q 0 < p
+scaled-keeps {p} l c at len xs room = below-keeps at len xs (scaled p c at len xs) (scaled-outside p c at xs len) (λ i k. scaled-below p c at xs len i room k l)

@@ -3,14 +3,12 @@ use mathlib.Core.Path.{_≡_, refl, sym, ap, _∙_}
 use mathlib.Core.List.{List, [], _∷_, append-nil}
 use Prim.Native.Nat.{ℕ, suc, _+_, _*_, _≤_, _<_}
 use native.Mathlib.Nat.{add-zero, mul-le-mul-left}
-use native.Mathlib.Numerals.{add-one}
 use native.Mathlib.Decide.{decLe}
 use native.Mathlib.Omega.{arith}
-use lib.ListN.{length, getD, take, set}
-use lib.Seq.{sets, take-suc, length-take-le}
+use lib.ListN.{length, getD, take}
+use lib.Seq.{sets}
 use Rattle.field.specs.Symbols.{Element, symbol, same-byte, symbols}
 use Rattle.field.proofs.SymbolLaws.{symbol-own}
-use Rattle.field.proofs.Lists.{sets-append}
 use Rattle.poly.specs.Polynomials.{value}
 use Rattle.poly.specs.Encode.{valueAt}
 use Rattle.poly.specs.Buffers.{Coefficients}
@@ -57,12 +55,6 @@ module _ {plan : Plan} {points word message : List ℕ} (received : Received pla
       agreements-suc job (polynomial job message) s
       ∙ ap (λ (n : ℕ). count s + n) (one-no (agrees? job (polynomial job message) s) (λ h. d (e ∙ ap (λ (x : Element (plan .p)). x .byte) (value-is ∙ h) ∙ received-is)))
       ∙ add-zero (count s)
-
--- one more store of a list's own elements
-pub sets-more : (l xs : List ℕ) (at i : ℕ) → i < length xs → set (sets l at (take i xs)) (at + i) (getD xs i 0) ≡ sets l at (take (i + 1) xs)
-sets-more l xs at i h =
-    let n : i ≤ length xs = omega arith in
-    rw (add-one, take-suc xs i 0, sets-append, length-take-le i xs)
 
 -- what is kept of the message
 module _ (plan : Plan) (points word chosen : List ℕ) {a : ℕ} (count : a ≡ agreements (jobOf plan points word) (length points) (polynomial (jobOf plan points word) (take (plan .k) chosen))) where

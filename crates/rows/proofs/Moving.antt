@@ -5,15 +5,15 @@ use mathlib.Core.Logic.{_⊎_, inl, inr}
 use mathlib.Core.List.{List}
 use Prim.Native.Nat.{ℕ, zero, suc, _+_, _-_, _*_, _≤_, _<_}
 use native.Mathlib.Nat.{suc-mul}
-use native.Mathlib.Decide.{decLe, decLt}
+use native.Mathlib.Decide.{decLe}
 use native.Mathlib.Omega.{arith}
 use lib.ListN.{length, getD}
 use Rattle.field.specs.Ring.{RingLaws}
 use Rattle.field.specs.Symbols.{Listed, symbol, symbols, sumOf, productOf, negativeOf}
-use Rattle.field.specs.Kernels.{subtracted, scaled}
+use Rattle.field.specs.Kernels.{subtracted}
 use Rattle.field.proofs.RingLaws.{add-zero, mul-zero, neg-zero}
 use Rattle.field.proofs.SymbolLaws.{symbols-field}
-use Rattle.field.proofs.KernelLaws.{subtracted-outside, subtracted-symbol, subtracted-below, scaled-outside, scaled-below}
+use Rattle.field.proofs.KernelLaws.{subtracted-outside, subtracted-symbol}
 use Rattle.rows.specs.Curves.{Curve}
 use Rattle.rows.specs.Bytes.{slot, curveBytes}
 use Rattle.rows.specs.declared.Shape.{Shape}
@@ -82,19 +82,3 @@ subtracted-elsewhere S c from r d xs h q o = subtracted-outside (S .p) c (r * cu
     away : (q < r * curveBytes S) ⊎ (r * curveBytes S + curveBytes S ≤ q) → (q < r * curveBytes S + d) ⊎ (r * curveBytes S + d + (curveBytes S - d) ≤ q)
     away (inl a) = inl (omega arith)
     away (inr a) = let b = slot-inside S {j = zero} {e = S .width} (omega arith) (omega arith) in inr (omega arith)
-
--- bytes below p stay below p, if those in a region come to be so and the others are kept
-below-keeps : {p : ℕ} (at len : ℕ) (xs ys : List ℕ) → ((q : ℕ) → (q < at) ⊎ (at + len ≤ q) → getD ys q 0 ≡ getD xs q 0) → ((i : ℕ) → i < len → getD ys (at + i) 0 < p) → (q : ℕ) → getD xs q 0 < p → getD ys q 0 < p
-below-keeps {p} at len xs ys same new q b = go (decLt q at) (decLt q (at + len))
-  where
-    go : Dec (q < at) → Dec (q < at + len) → getD ys q 0 < p
-    go (yes h) k = rw (same q (inl h)) b
-    go (no h) (yes k) = let i : at + (q - at) ≡ q = omega arith in rw i at (new (q - at) (omega arith))
-    go (no h) (no k) = rw (same q (inr (omega arith))) b
-
-pub subtracted-keeps : {p : ℕ} → Listed p → (c to from len : ℕ) (xs : List ℕ) → to + len ≤ length xs → (q : ℕ) → getD xs q 0 < p → getD (subtracted p c to from len xs) q 0 < p
-subtracted-keeps {p} l c to from len xs room =
-    below-keeps to len xs (subtracted p c to from len xs) (subtracted-outside p c to from xs len) (λ i k. subtracted-below p c to from xs len i room k l)
-
-pub scaled-keeps : {p : ℕ} → Listed p → (c at len : ℕ) (xs : List ℕ) → at + len ≤ length xs → (q : ℕ) → getD xs q 0 < p → getD (scaled p c at len xs) q 0 < p
-scaled-keeps {p} l c at len xs room = below-keeps at len xs (scaled p c at len xs) (scaled-outside p c at xs len) (λ i k. scaled-below p c at xs len i room k l)

@@ -14,7 +14,7 @@ use Rattle.field.specs.Kernels.{Subtracts, Scales, subtracted, scaled}
 use Rattle.field.proofs.RingTactic.{ring}
 use Rattle.field.proofs.OperationLaws.{symbol-negByte}
 use Rattle.field.proofs.SymbolLaws.{symbols-field, symbol-byte, byte-is}
-use Rattle.field.proofs.KernelLaws.{length-subtracted, length-scaled, scaled-outside, scaled-symbol}
+use Rattle.field.proofs.KernelLaws.{length-subtracted, length-scaled, scaled-outside, scaled-symbol, subtracted-keeps, scaled-keeps}
 use Rattle.poly.proofs.Series.{readings}
 use Rattle.rows.specs.Curves.{Curve, Lead}
 use Rattle.rows.specs.Turns.{cross, ratio, update}
@@ -25,7 +25,7 @@ use Rattle.rows.proofs.Monomials.{delay, delay-zero}
 use Rattle.rows.proofs.Crossing.{cross-at}
 use Rattle.rows.proofs.Updates.{Swapped, update-r, update-s, update-other}
 use Rattle.rows.proofs.Places.{block-end, row-end, slot-inside, place-apart, place-below, rowsOf-at, holds-own}
-use Rattle.rows.proofs.Moving.{Stands, Light, subtracted-curve, subtracted-elsewhere, subtracted-keeps, scaled-keeps}
+use Rattle.rows.proofs.Moving.{Stands, Light, subtracted-curve, subtracted-elsewhere}
 use Rattle.rows.proofs.CrossedRows.{due, crosses-w, crosses-v}
 
 -- - c q - (-1) d

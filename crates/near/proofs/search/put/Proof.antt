@@ -5,7 +5,7 @@ use native.Mathlib.Omega.{arith}
 use lib.ListN.{length, take}
 use lib.Seq.{sets, length-sets, take-length}
 use borrow.Author.Needs.{needs}
-use Rattle.near.proofs.Keeping.{sets-more}
+use Rattle.field.proofs.Lists.{sets-more}
 use Rattle.near.proofs.search.put.Statement.{statement}
 use Rattle.near.proofs.search.put.Tie as tie
 
@@ -36,7 +36,7 @@ loop-less c = search needs
 loop-again : tie.Need-loop-again Inv-loop μ-loop
 loop-again c =
     let l = c .before .before in
-    (search needs, rw (l .loop .inv .1) (sets-more _ _ _ _ (c .before .loop-test .taken)))
+    (search needs, rw (l .loop .inv .1) (sets-more _ _ _ _ 0 (c .before .loop-test .taken)))
 
 same-length : tie.Need-same-length Inv-loop μ-loop
 same-length c = ap length (c .before .loop .inv .1) ∙ simp length-sets
