@@ -7,10 +7,9 @@ use native.Mathlib.Omega.{arith}
 use lib.ListN.{length}
 use borrow.Author.Needs.{needs}
 use Rattle.field.specs.Symbols.{Listed, listed}
-use Rattle.poly.specs.Table.{First, BadCount, BadDegree, TooLarge}
-use Rattle.poly.specs.Buffers.{AllBelow}
+use Rattle.poly.specs.Table.{First}
 use Rattle.poly.specs.Encode.{encodeTable}
-use Rattle.poly.proofs.TableLaws.{first-determined, first-goes}
+use Rattle.poly.proofs.TableLaws.{first-determined, first-goes, none-large, good-count, good-degree}
 use Rattle.rows.specs.Jobs.{startTable, BadHeights}
 use Rattle.rows.specs.Work.{requestTable}
 use Rattle.rows.proofs.Accepted.{Accepted}
@@ -23,17 +22,6 @@ use Rattle.figures.proofs.Computed.{seven}
 infixr 20 _⊳_
 pub _⊳_ : {Applies Given Rest : Type 0} → (Applies → ⊥) → Rest → (Applies × Given) ⊎ ((Applies → ⊥) × Rest)
 _⊳_ not rest = inr (not, rest)
-
-pub none-large : {p : ℕ} {xs : List ℕ} → AllBelow p xs → TooLarge p xs → ⊥
-none-large below t = let l = t .large in let b = below (t .place) (t .inside) in omega arith
-
-pub good-count : {p n : ℕ} → 3 ≤ n → n ≤ p → BadCount p n → ⊥
-good-count a b (inl h) = omega arith
-good-count a b (inr h) = omega arith
-
-pub good-degree : {n k : ℕ} → 2 ≤ k → k < n → BadDegree n k → ⊥
-good-degree a b (inl h) = omega arith
-good-degree a b (inr h) = omega arith
 
 module _ {p : ℕ} {points word : List ℕ} {k m l : ℕ} {lent : List ℕ} (a : Accepted p points word k m l lent) where
   good-heights : BadHeights m l → ⊥

@@ -12,12 +12,12 @@ use Rattle.field.proofs.Tests.{all, all-at}
 use Rattle.poly.specs.Polynomials.{value}
 use Rattle.poly.specs.Table.{First}
 use Rattle.poly.specs.Encode.{encodeTable, valueAt}
-use Rattle.poly.proofs.TableLaws.{first-determined}
+use Rattle.poly.proofs.TableLaws.{first-determined, none-large, good-count, good-degree}
 use Rattle.rows.specs.Jobs.{startTable}
 use Rattle.figures.specs.Figures.{six, Encodes, Calls, three, atThree, word-0-0-1, Figures}
 use Rattle.figures.proofs.Computed.{seven, small, all-below, all-different, at-three}
 use Rattle.figures.proofs.Calls.{calls-give, calls-lightest}
-use Rattle.figures.proofs.Numbers.{_⊳_, none-large, good-count, good-degree, start-goes, p-9, n-2, k-n, l-9}
+use Rattle.figures.proofs.Numbers.{_⊳_, start-goes, p-9, n-2, k-n, l-9}
 use Rattle.figures.proofs.Word123.{worked-1-2-3}
 use Rattle.figures.proofs.Word001.{h-is, formula-is-one, worked-0-0-1}
 use Rattle.figures.proofs.Word000.{worked-0-0-0}

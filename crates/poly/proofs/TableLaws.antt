@@ -3,14 +3,14 @@ use mathlib.Core.Path.{_≡_, refl, sym, subst, _∙_}
 use mathlib.Core.Logic.{inl, inr}
 use mathlib.Core.Bool.{Bool, true, false, true≢false}
 use mathlib.Core.List.{List, [], _∷_}
-use Prim.Native.Nat.{ℕ, zero, suc, _<_}
+use Prim.Native.Nat.{ℕ, zero, suc, _<_, _≤_}
 use native.Mathlib.Decide.{decLt}
 use native.Mathlib.Omega.{arith}
 use lib.Dec.{T}
 use lib.ListN.{getD, take, drop}
 use Rattle.field.specs.Symbols.{listed, Listed}
 use Rattle.field.proofs.SymbolLaws.{is-listed}
-use Rattle.poly.specs.Table.{Refusal, First, NotListed, TooLarge}
+use Rattle.poly.specs.Table.{Refusal, First, NotListed, TooLarge, BadCount, BadDegree}
 use Rattle.poly.specs.Buffers.{Decided, AllBelow}
 
 pub first-determined : (table : List Refusal) (m n : ℕ) → First table m → First table n → m ≡ n
@@ -74,3 +74,15 @@ below-passed {p} {xs} n i h = go (decLt (getD xs i 0) p)
     go : Dec (getD xs i 0 < p) → getD xs i 0 < p
     go (yes l) = l
     go (no g) = absurd (n (record { place = i; inside = h; large = omega arith }))
+
+-- refusals that do not apply
+pub none-large : {p : ℕ} {xs : List ℕ} → AllBelow p xs → TooLarge p xs → ⊥
+none-large below t = let l = t .large in let b = below (t .place) (t .inside) in omega arith
+
+pub good-count : {p n : ℕ} → 3 ≤ n → n ≤ p → BadCount p n → ⊥
+good-count a b (inl h) = omega arith
+good-count a b (inr h) = omega arith
+
+pub good-degree : {n k : ℕ} → 2 ≤ k → k < n → BadDegree n k → ⊥
+good-degree a b (inl h) = omega arith
+good-degree a b (inr h) = omega arith

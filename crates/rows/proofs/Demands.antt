@@ -14,9 +14,9 @@ use Rattle.field.proofs.RingLaws.{mul-zero}
 use Rattle.field.proofs.FieldLaws.{no-zero-divisor}
 use Rattle.field.proofs.SymbolLaws.{symbols-field}
 use Rattle.poly.specs.Polynomials.{locator}
-use Rattle.poly.specs.Table.{TooLarge}
 use Rattle.poly.specs.Encode.{symbolsOf}
-use Rattle.poly.proofs.TableLaws.{first-determined}
+use Rattle.poly.specs.Buffers.{AllBelow}
+use Rattle.poly.proofs.TableLaws.{first-determined, none-large}
 use Rattle.poly.proofs.Interpolation.{interpolate}
 use Rattle.poly.proofs.Interpolating.{places-distinct}
 use Rattle.rows.specs.Curves.{Curve, Lead, Smallest}
@@ -51,14 +51,10 @@ turn-onward (pauses w s h p n) = omega arith
 turn-onward (updates w s v d n t) = turn-onward t
 turn-onward (halts w s v d z) = omega arith
 
-none-large : {S : Shape} {xs : List ℕ} → Bytes S xs → TooLarge (S .p) (take (rowsBytes S) xs) → ⊥
-none-large {S} {xs} b t =
+all-below : {S : Shape} {xs : List ℕ} → Bytes S xs → AllBelow (S .p) (take (rowsBytes S) xs)
+all-below {S} {xs} b i h =
     let e = length-take-le (rowsBytes S) xs (b .room) in
-    let i = t .inside in
-    let k : t .place < rowsBytes S = omega arith in
-    let x = t .large in
-    let y = b .below (t .place) k in
-    omega (arith, getD-take (rowsBytes S) xs (t .place) 0 k)
+    rw (getD-take (rowsBytes S) xs i 0 (omega arith)) (b .below i (omega arith))
 
 formula-positive : (n k m l : ℕ) → k < n → 1 ≤ m → 0 < formula n k m l
 unfolding total
@@ -173,7 +169,7 @@ module _ (q : Request) where
     promise = promised Φ (s .begins) (s .run)
 
     as-left : AsLeft (shapeFor q) (o .row) rows
-    as-left = record { below = none-large (s .bytes); sound = rw (s .rows-are) (promise .kept .sound) }
+    as-left = record { below = none-large (all-below (s .bytes)); sound = rw (s .rows-are) (promise .kept .sound) }
 
     -- the next turn is accepted and goes by the rule: a turn more in the run
     stands-turned : {a : ℕ} {new : List ℕ} {back : Turned} → HasTurned note a rows new back → (back .number ≡ 0) × Stands q (sum + a) new (back .note) (made + back .updates)
