@@ -23,11 +23,7 @@ use Rattle.rows.specs.Finish.{Lightest, monic}
 use Rattle.rows.specs.Bytes.{slot, curveBytes, rowsOf, HoldsCurve}
 use Rattle.rows.specs.Jobs.{HasTurned, Goes, HasHeight}
 use Rattle.rows.specs.Demands.{Request, ringFor, shapeFor, noteFor, updatesBound, Member, Begun, HandsCurve, started}
-use Rattle.rows.specs.declared.Note.{Note}
 use Rattle.rows.specs.declared.Shape.{Shape}
-use Rattle.rows.specs.declared.Started.{Started}
-use Rattle.rows.specs.declared.Turned.{Turned}
-use Rattle.rows.specs.declared.Finished.{Finished}
 use Rattle.rows.proofs.Leads.{lead-unique}
 use Rattle.rows.proofs.Least.{monic-lead, weight-unique}
 use Rattle.rows.proofs.Turns.{turn-determined, turn-keeps}
@@ -38,7 +34,9 @@ use Rattle.rows.proofs.Runs.{fresh-enters}
 use Rattle.rows.proofs.Accepted.{Accepted, start-accepted}
 use Rattle.rows.proofs.Passing.{begins-start, run-smallest}
 use Rattle.rows.proofs.Demands.{demand-2, demand-3}
-use Rattle.rows.proofs.Finishing.{height-unique}
+use Rattle.rows.proofs.Starting.{started-same}
+use Rattle.rows.proofs.Turning.{turned-same}
+use Rattle.rows.proofs.Finishing.{height-unique, finished-same}
 use Rattle.figures.specs.Figures.{Calls, Gives}
 
 module _ (q : Request) where
@@ -87,16 +85,6 @@ module _ {q : Request} {lent : List ℕ} (known : Accepted (q .p) (q .points) (q
       let begins = begins-start Φ (places-distinct (known .places)) (omega arith) (known .degree) (known .heights .order) (z .through) in
       let s = run-smallest Φ begins (turn (z .turn (updatesBound q) (omega arith) start (λ i k. refl)) none) refl light in
       (s, lead-unique (s .lead) (monic-lead Φ (light .lead) .0) .0)
-
--- what is handed back is the same where its fields are
-started-same : {n m : ℕ} {a b : Note} → n ≡ m → a ≡ b → _≡_ {A = Started} (record { number = n; note = a }) (record { number = m; note = b })
-started-same e d = cc
-
-turned-same : {n m u v : ℕ} {a b : Note} → n ≡ m → a ≡ b → u ≡ v → _≡_ {A = Turned} (record { number = n; note = a; updates = u }) (record { number = m; note = b; updates = v })
-turned-same e d f = cc
-
-finished-same : {n m u v s t : ℕ} → n ≡ m → u ≡ v → s ≡ t → _≡_ {A = Finished} (record { number = n; weight = u; height = s }) (record { number = m; weight = v; height = t })
-finished-same e d f = cc
 
 -- bytes that hold a curve begin with its bytes
 curve-bytes : (S : Shape) (Q : Curve (symbols (S .p) .ring)) (xs bytes : List ℕ) → curveBytes S ≤ length xs → length bytes ≡ curveBytes S → HoldsCurve S xs Q → HoldsCurve S bytes Q

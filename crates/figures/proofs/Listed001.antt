@@ -16,7 +16,7 @@ use Rattle.rows.proofs.Least.{weight-unique}
 use Rattle.near.specs.Lists.{Task, task, one, polynomial, In, agreements, Wanted}
 use Rattle.near.specs.Job.{workingRoom, listTable, refusal, RuleUpdates, Answers, HasListed}
 use Rattle.near.specs.declared.Near.{Near}
-use Rattle.near.proofs.Determined.{updates-unique}
+use Rattle.near.proofs.Determined.{updates-unique, near-same}
 use Rattle.near.proofs.Agreements.{agrees?, agreements-zero, agreements-suc}
 use Rattle.figures.specs.Figures.{three, atThree, word-0-0-1, ListGives}
 use Rattle.figures.proofs.Computed.{seven-laws, at-places, at-three}
@@ -63,10 +63,6 @@ nobody g want =
 empty : (list : List (List ℕ)) → ((x : List ℕ) → In x list → Wanted job (polynomial job x)) → list ≡ []
 empty [] wanted = refl
 empty (x ∷ list) wanted = absurd (nobody (polynomial job x) (wanted x (List·Memᴰ·head refl)))
-
-near-same : {n m a b c d e f : ℕ} → n ≡ m → a ≡ b → c ≡ d → e ≡ f
-    → _≡_ {A = Near} (record { number = n; count = a; updates = c; weight = e }) (record { number = m; count = b; updates = d; weight = f })
-near-same x y z w = cc
 
 -- an answer, whose curve weighs 2
 told : {t : ℕ} {room zeroed before after : List ℕ} {back : Near} → 1 ≤ t → t ≤ 3 → workingRoom ≤ length room → 2 ≤ length before

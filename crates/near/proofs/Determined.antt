@@ -26,7 +26,8 @@ use Rattle.near.proofs.Messages.{symbols-numbered}
 use Rattle.near.proofs.Lists.{list-unique}
 use Rattle.near.proofs.Listing.{list-taken}
 
-near-same : {a b : Near} → a .number ≡ b .number → a .count ≡ b .count → a .updates ≡ b .updates → a .weight ≡ b .weight → a ≡ b
+-- what is handed back is the same where its fields are
+pub near-same : {a b : Near} → a .number ≡ b .number → a .count ≡ b .count → a .updates ≡ b .updates → a .weight ≡ b .weight → a ≡ b
 near-same {a} {b} n c u w =
     ap₂ (λ (x y : ℕ). record { number = x; count = y; updates = a .updates; weight = a .weight }) n c
     ∙ ap₂ (λ (x y : ℕ). record { number = b .number; count = b .count; updates = x; weight = y }) u w

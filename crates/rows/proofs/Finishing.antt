@@ -79,6 +79,12 @@ module _ {S : Shape} {rows : ℕ → Curve (symbols (S .p) .ring)} {curve also :
       let e = hands-same in
       rw (c .is) (a .bytes (c .power) (c .degree) (c .low) (c .short) ∙ rw (e .0, e .1) (sym (b .bytes (c .power) (c .degree) (c .low) (c .short))))
 
+-- what is handed back is the same where its fields are
+pub finished-same : {a b : Finished} → a .number ≡ b .number → a .weight ≡ b .weight → a .height ≡ b .height → a ≡ b
+finished-same {a} {b} n w h =
+    ap (λ (x : ℕ). record { number = x; weight = a .weight; height = a .height }) n
+    ∙ ap₂ (λ (x y : ℕ). record { number = b .number; weight = x; height = y }) w h
+
 -- two outcomes of finish for the same arguments are the same
 module _ {note : Note} {rows before : List ℕ} where
   pub finish-determined : {after also : List ℕ} {a b : Finished} → HasFinished note rows before after a → HasFinished note rows before also b → (a ≡ b) × (after ≡ also)
@@ -87,17 +93,12 @@ module _ {note : Note} {rows before : List ℕ} where
       same : a .number ≡ b .number
       same = first-determined (finishTable note rows before) (a .number) (b .number) (f .first) (g .first)
 
-      all : a .weight ≡ b .weight → a .height ≡ b .height → a ≡ b
-      all w h =
-          ap (λ (x : ℕ). record { number = x; weight = a .weight; height = a .height }) same
-          ∙ ap₂ (λ (x y : ℕ). record { number = b .number; weight = x; height = y }) w h
-
       go : Dec (a .number ≡ 0) → (a ≡ b) × (after ≡ also)
       go (no n) =
           let x = f .refused n in
           let y = g .refused (λ e. n (same ∙ e)) in
-          (all (x .0 ∙ sym (y .0)) (x .1 ∙ sym (y .1)), x .2 ∙ sym (y .2))
+          (finished-same same (x .0 ∙ sym (y .0)) (x .1 ∙ sym (y .1)), x .2 ∙ sym (y .2))
       go (yes e) =
           let x = f .curve e in
           let y = g .curve (sym same ∙ e) in
-          (all (hands-same x y .1) (hands-height x y), untouched-unique (curveBytes (shapeOf note)) (f .rest) (g .rest) (λ q k. hands-bytes x y k))
+          (finished-same same (hands-same x y .1) (hands-height x y), untouched-unique (curveBytes (shapeOf note)) (f .rest) (g .rest) (λ q k. hands-bytes x y k))

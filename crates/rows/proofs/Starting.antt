@@ -40,6 +40,10 @@ module _ {p : ℕ} {points word : List ℕ} {k m l : ℕ} {rows : List ℕ} (a :
     pub accepted-rows : (after : List ℕ) → Filled S m work after → Holds S after (startRow R m (locator R n (symbolsOf p points)) h)
     accepted-rows after f = rw (interpolated-h (a .places) t (omega arith) ∙ interpolated-only (a .places) t (omega arith) through, interpolated-e (a .places) t (omega arith)) at f
 
+-- what is handed back is the same where its fields are
+pub started-same : {a b : Started} → a .number ≡ b .number → a .note ≡ b .note → a ≡ b
+started-same e d = ap₂ (λ (x : ℕ) (y : Note). record { number = x; note = y }) e d
+
 -- two outcomes of start for the same arguments are the same
 module _ {p : ℕ} {points word : List ℕ} {k m l : ℕ} {before : List ℕ} where
   pub start-determined : {after also : List ℕ} {back other : Started} → HasStarted p points word k m l before after back
@@ -48,9 +52,6 @@ module _ {p : ℕ} {points word : List ℕ} {k m l : ℕ} {before : List ℕ} wh
     where
       same : back .number ≡ other .number
       same = first-determined (startTable p points word k m l before) (back .number) (other .number) (f .first) (g .first)
-
-      both : back .note ≡ other .note → back ≡ other
-      both e = ap₂ (λ (x : ℕ) (y : Note). record { number = x; note = y }) same e
 
       byte : back .number ≡ 0 → (q : ℕ) → q < rowsBytes (shape p (length points) k m l) → getD after q 0 ≡ getD also q 0
       byte z q h =
@@ -63,8 +64,8 @@ module _ {p : ℕ} {points word : List ℕ} {k m l : ℕ} {before : List ℕ} wh
           ∙ sym (g .rows (sym same ∙ z) (t .0) (t .1) (r .row) (r .power) (r .degree) (r .inside) (r .low) (r .short)))
 
       go : Dec (back .number ≡ 0) → (back ≡ other) × (after ≡ also)
-      go (yes z) = (both (f .note z ∙ sym (g .note (sym same ∙ z))), untouched-unique (rowsBytes (shape p (length points) k m l)) (f .rest) (g .rest) (byte z))
+      go (yes z) = (started-same same (f .note z ∙ sym (g .note (sym same ∙ z))), untouched-unique (rowsBytes (shape p (length points) k m l)) (f .rest) (g .rest) (byte z))
       go (no z) =
           let x = f .refused z in
           let y = g .refused (λ e. z (same ∙ e)) in
-          (both (x .0 ∙ sym (y .0)), x .1 ∙ sym (y .1))
+          (started-same same (x .0 ∙ sym (y .0)), x .1 ∙ sym (y .1))

@@ -16,7 +16,8 @@ use Rattle.rows.proofs.Turns.{turn-determined as rule-determined}
 use Rattle.rows.proofs.Places.{in-rows}
 use Rattle.rows.proofs.Regions.{untouched-unique}
 
-turned-same : {a b : Turned} → a .number ≡ b .number → a .note ≡ b .note → a .updates ≡ b .updates → a ≡ b
+-- what is handed back is the same where its fields are
+pub turned-same : {a b : Turned} → a .number ≡ b .number → a .note ≡ b .note → a .updates ≡ b .updates → a ≡ b
 turned-same {a} {b} n m u =
     ap (λ (x : ℕ). record { number = x; note = a .note; updates = a .updates }) n
     ∙ ap₂ (λ (x : Note) (y : ℕ). record { number = b .number; note = x; updates = y }) m u
