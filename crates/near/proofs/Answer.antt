@@ -1,25 +1,18 @@
 -- The search gives the list, and the list has at most l messages: those on it are different roots of a curve of height at most l.
--- Weights are bounded too: that of the smallest curve is at most m n.
 use mathlib.Core.Path.{_≡_, ap, _∙_}
 use mathlib.Core.Logic.{_≢_}
 use mathlib.Core.List.{List, []}
 use Prim.Native.Nat.{ℕ, suc, _-_, _*_, _≤_, _<_}
-use native.Mathlib.Omega.{arith}
 use lib.ListN.{length, getD}
 use Rattle.field.specs.Ring.{Ring}
 use Rattle.field.specs.Field.{Field, FieldLaws}
-use Rattle.poly.specs.Polynomials.{Seq, zeroS, Series, value, Distinct, locator}
+use Rattle.poly.specs.Polynomials.{Seq, zeroS, Series, value, Distinct}
 use Rattle.poly.proofs.Series.{series}
 use Rattle.poly.proofs.Places.{roots-at-most, polynomials-apart}
-use Rattle.poly.proofs.Interpolation.{interpolate}
-use Rattle.rows.specs.Curves.{Curve, Lead, Smallest}
+use Rattle.rows.specs.Curves.{Curve, Lead}
 use Rattle.rows.specs.Multiplicity.{Passing}
-use Rattle.rows.specs.Start.{startRow}
 use Rattle.rows.proofs.Heights.{zero-at, height-below}
 use Rattle.rows.proofs.Leads.{lead-nonzero}
-use Rattle.rows.proofs.Spans.{span-row}
-use Rattle.rows.proofs.Generated.{start-passes}
-use Rattle.rows.proofs.StartRows.{start-first}
 use Rattle.near.specs.Lists.{Task, Numbering, polynomial, Wanted, IsList}
 use Rattle.near.specs.Search.{found}
 use Rattle.near.proofs.Messages.{polynomial-same}
@@ -55,10 +48,3 @@ module _ {F : Field} (Φ : FieldLaws F) (job : Task F) (num : Numbering F (job .
         different i j k q e =
             ascending-once list (h .ascending) i j k q
             (polynomial-same job num (getD list i []) (getD list j []) (h .spelt (getD list i []) (in-at list i k)) (h .spelt (getD list j []) (in-at list j q)) e)
-
--- the smallest curve weighs at most m n, since e^m is a curve of demand 2
-pub smallest-weight : {F : Field} (Φ : FieldLaws F) {n m l u : ℕ} {a v : ℕ → F .ring .Car} {Q : Curve (F .ring)} → Distinct (F .ring) n a → m ≤ l
-    → (S : Smallest (F .ring) u (Passing (F .ring) n m l a v) Q) → S .weight ≤ m * n
-smallest-weight {F} Φ {n} {m} {l} {u} {a} {v} points ml S =
-    let h = interpolate Φ n a v points in
-    S .least (startRow (F .ring) m (locator (F .ring) n a) (h .0) 0) (start-passes (Φ .ring) (h .1) ml (span-row (Φ .ring) 0 (omega arith))) (m * n) 0 (start-first Φ m (h .1) u) .0

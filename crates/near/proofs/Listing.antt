@@ -39,6 +39,7 @@ use Rattle.rows.proofs.Accepted.{Accepted, start-accepted, accepted-note}
 use Rattle.rows.proofs.Places.{rows-small}
 use Rattle.rows.proofs.Leads.{under-mono}
 use Rattle.rows.proofs.Regions.{untouched-then}
+use Rattle.rows.proofs.StartRows.{smallest-weight}
 use Rattle.near.specs.Job.{workingRoom, listTable, Zeroed, refusal, RuleUpdates, Lists, HasListed}
 use Rattle.near.specs.Lists.{task, IsList}
 use Rattle.near.specs.Search.{found}
@@ -47,7 +48,7 @@ use Rattle.near.specs.declared.Near.{Near}
 use Rattle.near.specs.declared.Weighed.{Weighed}
 use Rattle.near.specs.declared.search.Plan.{Plan}
 use Rattle.near.proofs.Messages.{symbols-numbered}
-use Rattle.near.proofs.Answer.{search-is-list, list-at-most, smallest-weight}
+use Rattle.near.proofs.Answer.{search-is-list, list-at-most}
 use Rattle.near.proofs.Laying.{holds-curve, holds-laid}
 
 pub record Taken (p : ℕ) (points word : List ℕ) (k m l t : ℕ) (room messages : List ℕ) : Type 0 where

@@ -1,5 +1,6 @@
--- Bytes and the polynomials that they stand for.
-use mathlib.Core.Path.{_≡_, sym, ap, fun-ext}
+-- Bytes and the polynomials that they stand for; parts of a buffer, and what is kept outside of one.
+use mathlib.Core.Path.{_≡_, sym, ap, fun-ext, refl, _∙_}
+use mathlib.Core.Logic.{inl, inr, ⊎-elim}
 use mathlib.Core.List.{List}
 use Prim.Native.Nat.{ℕ, suc, _+_, _-_, _≤_, _<_}
 use native.Mathlib.Nat.{zero-add, add-zero}
@@ -7,13 +8,14 @@ use native.Mathlib.Decide.{decLt}
 use native.Mathlib.Omega.{arith}
 use lib.ListN.{length, getD, take, drop, length-take, length-drop, List·getD-eq-default}
 use lib.Seq.{take-all, getD-take, getD-drop}
-use Rattle.field.specs.Symbols.{Element, symbol, symbols}
+use Rattle.field.specs.Symbols.{Element, symbol, symbols, Listed}
+use Rattle.field.specs.Kernels.{Region}
 use Rattle.field.specs.Operations.{plusBytes, timesBytes}
-use Rattle.field.proofs.SymbolLaws.{symbol-byte, zero-byte}
+use Rattle.field.proofs.SymbolLaws.{symbol-byte, zero-byte, byte-below}
 use Rattle.field.proofs.OperationLaws.{symbol-timesBytes}
 use Rattle.poly.specs.Polynomials.{Seq, tail, Below, value}
 use Rattle.poly.specs.Encode.{symbolsOf}
-use Rattle.poly.specs.Buffers.{AllBelow}
+use Rattle.poly.specs.Buffers.{AllBelow, Factors, Kept}
 
 module _ (p : ℕ) (xs : List ℕ) where
   -- the bytes of xs are the coefficients of f
@@ -34,6 +36,33 @@ module _ (n : ℕ) (xs : List ℕ) where
 
   pub take-rest : take (length xs - n) (drop n xs) ≡ drop n xs
   take-rest = take-all (length xs - n) (drop n xs) (let l = length-drop n xs in omega arith)
+
+-- what is outside a region is kept
+pub kept-none : (at len : ℕ) (xs : List ℕ) → Kept at len xs xs
+kept-none at len xs = record { long = refl; same = λ q o. refl }
+
+pub kept-then : {at len : ℕ} {xs ys zs : List ℕ} → Kept at len xs ys → Kept at len ys zs → Kept at len xs zs
+kept-then a b = record { long = b .long ∙ a .long; same = λ q o. b .same q o ∙ a .same q o }
+
+pub kept-wider : {at len : ℕ} (by : ℕ) {short : ℕ} {xs ys : List ℕ} → by + short ≤ len → Kept (at + by) short xs ys → Kept at len xs ys
+kept-wider by h a = record { long = a .long; same = λ q o. a .same q (⊎-elim (λ l. inl (omega arith)) (λ l. inr (omega arith)) o) }
+
+pub kept-longer : {at short len : ℕ} {xs ys : List ℕ} → short ≤ len → Kept at short xs ys → Kept at len xs ys
+kept-longer h a = record { long = a .long; same = λ q o. a .same q (⊎-elim inl (λ l. inr (omega arith)) o) }
+
+-- a part of a region
+pub region-part : {p at len : ℕ} (by : ℕ) {short : ℕ} {xs : List ℕ} → by + short ≤ len → Region p at len xs → Region p (at + by) short xs
+region-part {p} {at} by h r =
+    let w = r .within in
+    record { within = omega arith; below = λ i k. let e : at + by + i ≡ at + (by + i) = omega arith in rw e (r .below (by + i) (omega arith)) }
+
+pub factors-part : {p : ℕ} {f : List ℕ} {at len : ℕ} (by : ℕ) {short : ℕ} {xs : List ℕ} → by + short ≤ len → Factors p f at len xs → Factors p f (at + by) short xs
+factors-part by h a = record { size = a .size; factor = a .factor; region = region-part by h (a .region) }
+
+-- symbols' bytes in a region
+pub region-symbols : {p at len : ℕ} {xs ys : List ℕ} (f : Seq (symbols p .ring)) → Listed p → Region p at len xs → Kept at len xs ys
+    → ((i : ℕ) → i < len → getD ys (at + i) 0 ≡ f i .byte) → Region p at len ys
+region-symbols f l r k is = record { within = rw (k .long) (r .within); below = λ i h. rw (is i h) (byte-below l (f i)) }
 
 -- Horner's rule, from the last coefficient on: the value of those from i on
 module _ (p a n : ℕ) (f : Seq (symbols p .ring)) where

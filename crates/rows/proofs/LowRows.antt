@@ -19,12 +19,12 @@ use Rattle.poly.specs.Buffers.{from, Factors, Kept}
 use Rattle.poly.proofs.Series.{series}
 use Rattle.poly.proofs.Constants.{constS-zero}
 use Rattle.poly.proofs.Products.{product-low}
+use Rattle.poly.proofs.BufferLaws.{kept-none, kept-then, kept-longer}
 use Rattle.rows.specs.Bytes.{slot, curveBytes, place}
 use Rattle.rows.specs.Filling.{Power, slotsAt, Raised, HoldsRow, FillsLow, FilledLow}
 use Rattle.rows.specs.declared.Shape.{Shape}
 use Rattle.rows.proofs.Filling.{lowRow, lowRow-zero, lowRow-suc, lowRow-height, raised-low, raised-height, startRow-low}
 use Rattle.rows.proofs.Places.{slot-end, row-end, block-end, slot-inside, InCurve, in-curve}
-use Rattle.rows.proofs.Regions.{kept-none, kept-then, kept-longer}
 
 pub slot-fits : (S : Shape) → slot S ≤ curveBytes S
 slot-fits S = let w = slot-end S {j = zero} (omega arith) in omega arith

@@ -1,6 +1,6 @@
--- Runs of bytes: cleared, copied, and regions with their parts.
+-- Runs of bytes that are cleared or copied, and bytes that are as they were past the first ones.
 use mathlib.Core.Path.{_≡_, refl, sym, _∙_}
-use mathlib.Core.Logic.{_⊎_, inl, inr, ⊎-elim}
+use mathlib.Core.Logic.{_⊎_, inl, inr}
 use mathlib.Core.List.{List}
 use Prim.Native.Nat.{ℕ, _+_, _≤_, _<_}
 use native.Mathlib.Nat.{zero-add}
@@ -10,12 +10,7 @@ use native.Mathlib.Omega.{arith}
 use lib.ListN.{length, getD, set}
 use lib.Seq.{length-sets, ext-getD}
 use Rattle.field.specs.Lists.{tabulate}
-use Rattle.field.specs.Symbols.{Listed, symbols}
-use Rattle.field.specs.Kernels.{Region}
 use Rattle.field.proofs.Lists.{sets-tabulate-zero, sets-tabulate-suc, sets-tabulate-inside, sets-tabulate-outside}
-use Rattle.field.proofs.SymbolLaws.{byte-below}
-use Rattle.poly.specs.Polynomials.{Seq}
-use Rattle.poly.specs.Buffers.{Factors, Kept}
 use Rattle.rows.specs.Bytes.{Untouched}
 use Rattle.rows.specs.Filling.{cleared, copied, Copies}
 
@@ -64,19 +59,6 @@ module _ (from to : ℕ) (xs : List ℕ) where
       let k : getD ys (from + i) 0 ≡ getD xs (from + i) 0 = rw e (copied-outside i (from + i) (inl (omega (arith, a .apart)))) in
       rw (add-one, sets-tabulate-suc xs to i (λ i. getD xs (from + i) 0), k, e)
 
--- what is outside a region is kept
-pub kept-none : (at len : ℕ) (xs : List ℕ) → Kept at len xs xs
-kept-none at len xs = record { long = refl; same = λ q o. refl }
-
-pub kept-then : {at len : ℕ} {xs ys zs : List ℕ} → Kept at len xs ys → Kept at len ys zs → Kept at len xs zs
-kept-then a b = record { long = b .long ∙ a .long; same = λ q o. b .same q o ∙ a .same q o }
-
-pub kept-wider : {at len : ℕ} (by : ℕ) {short : ℕ} {xs ys : List ℕ} → by + short ≤ len → Kept (at + by) short xs ys → Kept at len xs ys
-kept-wider by h a = record { long = a .long; same = λ q o. a .same q (⊎-elim (λ l. inl (omega arith)) (λ l. inr (omega arith)) o) }
-
-pub kept-longer : {at short len : ℕ} {xs ys : List ℕ} → short ≤ len → Kept at short xs ys → Kept at len xs ys
-kept-longer h a = record { long = a .long; same = λ q o. a .same q (⊎-elim inl (λ l. inr (omega arith)) o) }
-
 -- what is past the first bytes is kept
 pub untouched-none : (size : ℕ) (xs : List ℕ) → Untouched size xs xs
 untouched-none size xs = record { long = refl; same = λ q h. refl }
@@ -91,17 +73,3 @@ untouched-unique size {before} {after} {also} a b low = ext-getD 0 after also (a
     go : (q : ℕ) → Dec (q < size) → getD after q 0 ≡ getD also q 0
     go q (yes h) = low q h
     go q (no h) = a .same q (omega arith) ∙ sym (b .same q (omega arith))
-
--- a part of a region
-pub region-part : {p at len : ℕ} (by : ℕ) {short : ℕ} {xs : List ℕ} → by + short ≤ len → Region p at len xs → Region p (at + by) short xs
-region-part {p} {at} by h r =
-    let w = r .within in
-    record { within = omega arith; below = λ i k. let e : at + by + i ≡ at + (by + i) = omega arith in rw e (r .below (by + i) (omega arith)) }
-
-pub factors-part : {p : ℕ} {f : List ℕ} {at len : ℕ} (by : ℕ) {short : ℕ} {xs : List ℕ} → by + short ≤ len → Factors p f at len xs → Factors p f (at + by) short xs
-factors-part by h a = record { size = a .size; factor = a .factor; region = region-part by h (a .region) }
-
--- symbols' bytes in a region
-pub region-symbols : {p at len : ℕ} {xs ys : List ℕ} (f : Seq (symbols p .ring)) → Listed p → Region p at len xs → Kept at len xs ys
-    → ((i : ℕ) → i < len → getD ys (at + i) 0 ≡ f i .byte) → Region p at len ys
-region-symbols f l r k is = record { within = rw (k .long) (r .within); below = λ i h. rw (is i h) (byte-below l (f i)) }

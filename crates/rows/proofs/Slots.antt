@@ -22,10 +22,10 @@ use Rattle.poly.specs.Encode.{symbolsOf}
 use Rattle.poly.specs.Buffers.{from, Factors, productFrom, Kept, Product}
 use Rattle.poly.proofs.Series.{series}
 use Rattle.poly.proofs.Products.{product-low}
+use Rattle.poly.proofs.BufferLaws.{kept-none, kept-then, kept-wider, region-symbols}
 use Rattle.rows.specs.Filling.{Power, slotsAt, raised, RaisedSlot, Raised}
 use Rattle.rows.proofs.Filling.{raised-zero, raised-suc, raised-low}
 use Rattle.rows.proofs.Places.{block-end}
-use Rattle.rows.proofs.Regions.{kept-none, kept-then, kept-wider, region-symbols}
 
 -- the x-polynomial in a region times -f
 pub record Negated (p : ℕ) (f : List ℕ) (at len : ℕ) (before after : List ℕ) : Type 0 where

@@ -1,4 +1,5 @@
--- The starting rows as a turn finds them: their heights, their x-polynomials at y^i, and their weights. Row 0 is a curve of demand 2.
+-- The starting rows as a turn finds them: their heights, their x-polynomials at y^i, and their weights. Row 0 is a curve of demand 2,
+-- so the smallest one weighs no more.
 use mathlib.Core.Path.{_≡_, refl, sym, ap, _∙_}
 use mathlib.Core.Logic.{_≢_}
 use Prim.Native.Nat.{ℕ, zero, suc, _+_, _-_, _*_, _≤_, _<_, min}
@@ -9,10 +10,11 @@ use Rattle.field.specs.Ring.{Ring, RingLaws, pow}
 use Rattle.field.specs.Field.{Field, FieldLaws}
 use Rattle.field.proofs.RingLaws.{mul-one}
 use Rattle.field.proofs.Sums.{pow-zero}
-use Rattle.poly.specs.Polynomials.{Seq, Series, constS, xS, lin, Below, Through, locator}
+use Rattle.poly.specs.Polynomials.{Seq, Series, constS, xS, lin, Below, Through, locator, Distinct}
 use Rattle.poly.proofs.Series.{series}
 use Rattle.poly.proofs.Degrees.{Monic, monic-same, monic-pow, monic-locator}
-use Rattle.rows.specs.Curves.{Curve, Zero, Under, Lead}
+use Rattle.poly.proofs.Interpolation.{interpolate}
+use Rattle.rows.specs.Curves.{Curve, Zero, Under, Lead, Smallest}
 use Rattle.rows.specs.Multiplicity.{Passing}
 use Rattle.rows.specs.Start.{startRow}
 use Rattle.rows.specs.Entry.{Sound}
@@ -118,3 +120,10 @@ module _ {F : Field} (Φ : FieldLaws F) where
 
       pub start-sound : Sound R (k - 1) W l 1 start
       start-sound = fresh-enters Φ start-fresh
+
+-- the smallest curve weighs at most m n, since e^m is a curve of demand 2
+pub smallest-weight : {F : Field} (Φ : FieldLaws F) {n m l u : ℕ} {a v : ℕ → F .ring .Car} {Q : Curve (F .ring)} → Distinct (F .ring) n a → m ≤ l
+    → (S : Smallest (F .ring) u (Passing (F .ring) n m l a v) Q) → S .weight ≤ m * n
+smallest-weight {F} Φ {n} {m} {l} {u} {a} {v} points ml S =
+    let h = interpolate Φ n a v points in
+    S .least (startRow (F .ring) m (locator (F .ring) n a) (h .0) 0) (start-passes (Φ .ring) (h .1) ml (span-row (Φ .ring) 0 (omega arith))) (m * n) 0 (start-first Φ m (h .1) u) .0
