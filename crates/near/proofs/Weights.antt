@@ -2,12 +2,10 @@
 use mathlib.Core.Path.{_≡_, sym, ap, _∙_}
 use Prim.Native.Nat.{ℕ, zero, suc, _+_, _-_, _*_, _≤_, zero-le}
 use native.Mathlib.Omega.{arith}
-use native.Mathlib.Decide.{decLe}
 use Rattle.field.specs.Ring.{Ring, RingLaws}
-use Rattle.field.proofs.RingLaws.{mul-zero}
 use Rattle.poly.specs.Polynomials.{Seq, tail, Series, Below, value}
-use Rattle.poly.proofs.Series.{series, zeroS-at}
-use Rattle.poly.proofs.Bounds.{below-zero, below-add, below-same, below-mul-tight}
+use Rattle.poly.proofs.Series.{series}
+use Rattle.poly.proofs.Bounds.{below-add, below-same, below-product}
 use Rattle.poly.proofs.Shift.{shift, shift-zero, shift-at-zero, shift-at-suc, shift-value}
 use Rattle.rows.specs.Curves.{Curve, Under}
 use Rattle.rows.proofs.Heights.{zero-at}
@@ -16,13 +14,6 @@ module _ {R : Ring} (L : RingLaws R) where
   open Ring (Series R) using (times as _⊠_)
 
   infixl 70 _⊠_
-  below-product : (u W : ℕ) (f g : Seq R) → Below R (suc u) f → Below R (W - u) g → Below R W (f ⊠ g)
-  below-product u W f g hf hg = go (decLe u W)
-    where
-      go : Dec (u ≤ W) → Below R W (f ⊠ g)
-      go (yes k) i l = below-mul-tight L u (W - u) f g hf hg i (omega arith)
-      go (no k) i l = rw (below-zero L {f = g} (λ t q. hg t (omega arith)), mul-zero (series L) f) (zeroS-at R i)
-
   -- `Under` with 0 for the power of y: the weight is below W
   pub under-shift : (u W N : ℕ) (Q : Curve R) (g : Seq R) → Below R (suc u) g → Under R u W 0 Q → Under R u W 0 (shift (Series R) g N Q)
   under-shift u W zero Q g short light j e l q = ap (λ (P : Curve R). P j e) (shift-zero (Series R) g Q) ∙ zero-at R j e
@@ -34,12 +25,12 @@ module _ {R : Ring} (L : RingLaws R) where
       go : (j e : ℕ) → W ≤ e + u * j → Under R u (W - u) 0 S → shift (Series R) g (suc N) Q j e ≡ R .𝟘
       go zero e l ih =
           rw (shift-at-zero (series L) g N Q)
-          (below-add L {N = W} {f = Q 0} {g = g ⊠ S 0} (λ t k. light 0 t (omega arith) (λ _. zero-le)) (below-product u W g (S 0) short (λ t k. ih 0 t (omega arith) (λ _. zero-le))) e (omega arith))
+          (below-add L {N = W} {f = Q 0} {g = g ⊠ S 0} (λ t k. light 0 t (omega arith) (λ _. zero-le)) (below-product L u W g (S 0) short (λ t k. ih 0 t (omega arith) (λ _. zero-le))) e (omega arith))
       go (suc j) e l ih =
           rw (shift-at-suc (series L) g N Q j)
           (below-add L {N = W - u * suc j} {f = S j} {g = g ⊠ S (suc j)}
           (λ t k. ih j t (omega arith) (λ _. zero-le))
-          (below-product u (W - u * suc j) g (S (suc j)) short (λ t k. ih (suc j) t (omega arith) (λ _. zero-le)))
+          (below-product L u (W - u * suc j) g (S (suc j)) short (λ t k. ih (suc j) t (omega arith) (λ _. zero-le)))
           e (omega arith))
 
   pub below-graph : (u W N : ℕ) (Q : Curve R) (g : Seq R) → Below R (suc u) g → Under R u W 0 Q → Below R W (value (Series R) g N Q)

@@ -1,7 +1,7 @@
 -- Below N: how many coefficients sums, products and the rest may have.
 use mathlib.Core.Path.{_≡_, refl, ap, _∙_, fun-ext}
-use Prim.Native.Nat.{ℕ, zero, suc, _+_, _≤_, zero-le, suc-le-suc}
-use native.Mathlib.Decide.{ℕ-discrete}
+use Prim.Native.Nat.{ℕ, zero, suc, _+_, _≤_, zero-le, suc-le-suc, _-_}
+use native.Mathlib.Decide.{ℕ-discrete, decLe}
 use native.Mathlib.Omega.{arith}
 use Rattle.field.specs.Ring.{Ring, RingLaws}
 use Rattle.field.proofs.RingLaws.{add-zero, mul-zero, zero-mul, neg-zero}
@@ -82,3 +82,11 @@ module _ {R : Ring} (L : RingLaws R) where
   pub below-mul : (N M : ℕ) (f g : Seq R) → Below R N f → Below R M g → Below R (N + M) (mulS R f g)
   below-mul zero M f g hf hg = below-same (ap (λ (k : Seq R). mulS R k g) (below-zero hf) ∙ zero-mul (series L) g) (below-null (zero + M))
   below-mul (suc N) M f g hf hg = λ i l. below-mul-tight N M f g hf hg i (omega arith)
+
+  -- of degree at most u and below W - u, also where W is below u
+  pub below-product : (u W : ℕ) (f g : Seq R) → Below R (suc u) f → Below R (W - u) g → Below R W (mulS R f g)
+  below-product u W f g hf hg = go (decLe u W)
+    where
+      go : Dec (u ≤ W) → Below R W (mulS R f g)
+      go (yes k) i l = below-mul-tight u (W - u) f g hf hg i (omega arith)
+      go (no k) i l = rw (below-zero {f = g} (λ t q. hg t (omega arith)), mul-zero (series L) f) (zeroS-at R i)

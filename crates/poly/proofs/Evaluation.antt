@@ -6,11 +6,11 @@ use Prim.Native.Nat.{ℕ, zero, suc, _+_, _≤_}
 use native.Mathlib.Nat.{suc-add, zero-add as n-zero-add}
 use native.Mathlib.Omega.{arith}
 use Rattle.field.specs.Ring.{Ring, RingLaws, pow, sum}
-use Rattle.field.proofs.RingLaws.{add-zero, zero-add, mul-zero, zero-mul, neg-unique, add-neg, mul-left-comm}
+use Rattle.field.proofs.RingLaws.{add-zero, zero-add, mul-zero, zero-mul, neg-unique, add-neg, mul-left-comm, mul-assoc}
 use Rattle.field.proofs.RingTactic.{ring, reading}
 use Rattle.field.proofs.Sums.{pow-zero, pow-suc, sum-zero, sum-front, sum-cong, sum-mul}
 use Rattle.poly.specs.Polynomials.{Seq, tail, zeroS, oneS, addS, negS, scaleS, mulS, Series, consS, constS, Below, value}
-use Rattle.poly.proofs.Series.{series, mulS-zero, mulS-suc, tail-mulS}
+use Rattle.poly.proofs.Series.{series, mulS-zero, mulS-suc, tail-mulS, scaleS-at}
 use Rattle.poly.proofs.Constants.{xPlus, xPlus-zero, xPlus-tail, constS-zero, const-one, const-zero, const-add, const-mul}
 use Rattle.poly.proofs.Bounds.{below-zero, below-tail}
 
@@ -112,6 +112,21 @@ module _ {R : Ring} (L : RingLaws R) (a : R .Car) where
       inner =
           sum-cong L m (λ i. g (suc i) ⊗ pow R a (suc i)) (λ i. a ⊗ (g (suc i) ⊗ pow R a i)) (λ i l. rw (pow-suc R a i) (mul-left-comm L (g (suc i)) a (pow R a i)))
           ∙ sum-mul L a m (λ j. g (suc j) ⊗ pow R a j)
+
+module _ {R : Ring} (L : RingLaws R) where
+  open Ring R using (Car, plus as _⊕_, times as _⊗_)
+
+  infixl 65 _⊕_
+  infixl 70 _⊗_
+  -- f at h x is f with each coefficient times a power of h
+  pub value-powers : (h a : Car) (N : ℕ) (f : Seq R) → value R a N (λ j. pow R h j ⊗ f j) ≡ value R (h ⊗ a) N f
+  value-powers h a zero f = value-zero R a (λ j. pow R h j ⊗ f j) ∙ sym (value-zero R (h ⊗ a) f)
+  value-powers h a (suc N) f =
+      rw (value-suc R a N (λ j. pow R h j ⊗ f j), out, value-scale L a N h (λ j. pow R h j ⊗ f (suc j)), value-powers h a N (tail R f), value-suc R (h ⊗ a) N f, pow-zero R h)
+      (ring L (f 0 ∷ h ∷ a ∷ value R (h ⊗ a) N (tail R f) ∷ []) (search reading depth 25) tt)
+    where
+      out : _≡_ {A = Seq R} (λ j. pow R h (suc j) ⊗ f (suc j)) (scaleS R h (λ j. pow R h j ⊗ f (suc j)))
+      out = fun-ext (λ j. rw (pow-suc R h j, scaleS-at R h (λ j. pow R h j ⊗ f (suc j)) j) (mul-assoc L h (pow R h j) (f (suc j))))
 
 -- `to` respects the operations
 pub record Hom (R S : Ring) (to : R .Car → S .Car) : Type 0 where

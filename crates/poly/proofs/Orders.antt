@@ -4,16 +4,18 @@ use mathlib.Core.Path.{_≡_, sym, ap, _∙_, fun-ext}
 use mathlib.Core.Logic.{_≢_, _⊎_, inl, inr}
 use Prim.Native.Nat.{ℕ, zero, suc, _+_, _-_, _<_}
 use native.Mathlib.Decide.{decLt, ℕ-discrete}
+use native.Mathlib.Nat.{zero-add}
 use native.Mathlib.Omega.{arith}
 use Rattle.field.specs.Ring.{Ring, RingLaws}
 use Rattle.field.specs.Field.{Field, FieldLaws}
 use Rattle.field.proofs.RingLaws.{add-zero, add-neg, neg-zero, zero-mul, mul-zero, one-mul}
 use Rattle.field.proofs.Sums.{sum-null}
 use Rattle.field.proofs.FieldLaws.{no-zero-divisor}
-use Rattle.poly.specs.Polynomials.{Seq, tail, zeroS, addS, negS, mulS, Series, consS, constS, Below}
+use Rattle.poly.specs.Polynomials.{Seq, tail, zeroS, addS, negS, mulS, Series, consS, constS, Below, value}
 use Rattle.poly.proofs.Series.{zeroS-at, addS-at, negS-at, mulS-sum, mulS-single}
 use Rattle.poly.proofs.Constants.{cons-ext}
 use Rattle.poly.proofs.Bounds.{below-zero, below-tail}
+use Rattle.poly.proofs.Evaluation.{value-zero, value-suc}
 
 module _ (R : Ring) where
   open Ring R using (Car, 𝟘, times as _⊗_)
@@ -79,6 +81,30 @@ module _ {R : Ring} (L : RingLaws R) where
 
   pub regular-one : Regular R 𝟙
   regular-one x e = sym (one-mul L x) ∙ e
+
+module _ {R : Ring} (L : RingLaws R) where
+  open Ring R using (Car, plus as _⊕_, times as _⊗_)
+  open Ring (Series R) using (times as _⊠_)
+
+  infixl 65 _⊕_
+  infixl 70 _⊗_ _⊠_
+  -- the coefficient of x^v in P at y = f, where x^v divides P
+  pub value-order : (v N : ℕ) (P : Seq (Series R)) (f : Seq R) → ((j : ℕ) → Ord R v (P j)) → Ord R v (value (Series R) f N P)
+  value-order v zero P f o i l = ap (λ (k : Seq R). k i) (value-zero (Series R) f P) ∙ zeroS-at R i
+  value-order v (suc N) P f o i l =
+      let U : Seq R = value (Series R) f N (tail (Series R) P) in
+      ap (λ (k : Seq R). k i) (value-suc (Series R) f N P)
+      ∙ ord-add L {n = v} {f = P 0} {g = f ⊠ U} (o 0) (λ t q. ord-mul L 0 v f U (λ s h. absurd (omega arith)) (value-order v N (tail (Series R) P) f (λ j. o (suc j))) t (omega arith)) i l
+
+  pub value-lowest : (v N : ℕ) (P : Seq (Series R)) (f : Seq R) → ((j : ℕ) → Ord R v (P j)) → value (Series R) f N P v ≡ value R (f 0) N (λ j. P j v)
+  value-lowest v zero P f o = ap (λ (k : Seq R). k v) (value-zero (Series R) f P) ∙ zeroS-at R v ∙ sym (value-zero R (f 0) (λ j. P j v))
+  value-lowest v (suc N) P f o =
+      let U : Seq R = value (Series R) f N (tail (Series R) P) in
+      let low : mulS R f U (0 + v) ≡ f 0 ⊗ U v = ord-mul-lowest L 0 v f U (λ s h. absurd (omega arith)) (value-order v N (tail (Series R) P) f (λ j. o (suc j))) in
+      ap (λ (k : Seq R). k v) (value-suc (Series R) f N P)
+      ∙ addS-at R (P 0) (f ⊠ U) v
+      ∙ ap (λ (c : Car). P 0 v ⊕ c) (ap (mulS R f U) (sym (zero-add v)) ∙ low ∙ ap (λ (c : Car). f 0 ⊗ c) (value-lowest v N (tail (Series R) P) f (λ j. o (suc j))))
+      ∙ sym (value-suc R (f 0) N (λ j. P j v))
 
 module _ {F : Field} (Φ : FieldLaws F) where
   abbrev R : Ring

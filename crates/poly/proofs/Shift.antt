@@ -7,8 +7,9 @@ use native.Mathlib.Omega.{arith}
 use Rattle.field.specs.Ring.{Ring, RingLaws, pow, sum}
 use Rattle.field.proofs.RingLaws.{one-mul, add-neg, neg-add-self, add-zero, mul-zero}
 use Rattle.field.proofs.RingTactic.{ring, reading}
-use Rattle.poly.specs.Polynomials.{Seq, tail, zeroS, addS, mulS, Series, constS, lin, Below, value, scaleS, xS}
-use Rattle.poly.proofs.Series.{series, zeroS-at, addS-at, mulS-zero, mulS-suc}
+use Rattle.field.proofs.Sums.{pow-zero, pow-suc}
+use Rattle.poly.specs.Polynomials.{Seq, tail, zeroS, addS, mulS, Series, constS, lin, Below, value, scaleS, xS, consS}
+use Rattle.poly.proofs.Series.{series, zeroS-at, addS-at, mulS-zero, mulS-suc, scaleS-at}
 use Rattle.poly.proofs.Constants.{xPlus, constS-zero, constS-suc, xPlus-zero, xPlus-tail, xPlus-none, xPlus-neg, xPlus-add, cons-tail, mul-const, const-mul}
 use Rattle.poly.proofs.Bounds.{below-zero, below-tail, below-mono, below-add, below-null, below-same, below-const, below-xPlus, below-mul-tight}
 use Rattle.poly.proofs.Evaluation.{Hom, map, map-add, map-mul, map-null, map-const, map-xPlus, map-below, eval, eval-mul, constant, value-zero, value-suc, value-add, value-null, value-more, value-mul, value-const, value-xPlus, value-split, value-scale}
@@ -103,6 +104,39 @@ module _ {R : Ring} (L : RingLaws R) where
       ap (value (Series R) (xPlus R b) 2) (ap (map R (Series R) (constS R)) (sym (xPlus-neg R a)) ∙ map-xPlus (constant L) (⊖ a))
       ∙ value-xPlus (series L) (xPlus R b) (constS R (⊖ a))
       ∙ sym (xPlus-add L b (⊖ a))
+
+module _ {R : Ring} (L : RingLaws R) where
+  open Ring R using (Car, 𝟘, 𝟙, plus as _⊕_, times as _⊗_)
+
+  infixl 65 _⊕_
+  infixl 70 _⊗_
+  -- f at g + h x is f at g + x, each coefficient times a power of h
+  pub value-line : (g h : Car) (N : ℕ) (f : Seq R) (j : ℕ) → value (Series R) (consS R g (constS R h)) N (λ i. constS R (f i)) j ≡ pow R h j ⊗ shift R g N f j
+  unfolding consS
+  value-line g h zero f j =
+      ap (λ (k : Seq R). k j) (value-zero (Series R) (consS R g (constS R h)) (λ i. constS R (f i)))
+      ∙ zeroS-at R j ∙ sym (rw (shift-zero R g f, zeroS-at R j) (mul-zero L (pow R h j)))
+  value-line g h (suc N) f j =
+      ap (λ (k : Seq R). k j) (value-suc (Series R) (consS R g (constS R h)) N (λ i. constS R (f i)))
+      ∙ addS-at R (constS R (f 0)) (mulS R (consS R g (constS R h)) E) j ∙ at j (λ i. value-line g h N (tail R f) i)
+    where
+      E : Seq R
+      E = value (Series R) (consS R g (constS R h)) N (λ i. constS R (f (suc i)))
+
+      S : Seq R
+      S = shift R g N (tail R f)
+
+      first : (a b : Car) → a ⊕ g ⊗ (𝟙 ⊗ b) ≡ 𝟙 ⊗ (a ⊕ g ⊗ b)
+      first a b = ring L (a ∷ b ∷ g ∷ []) (search reading depth 25) tt
+
+      later : (q a b : Car) → 𝟘 ⊕ (g ⊗ (h ⊗ q ⊗ b) ⊕ h ⊗ (q ⊗ a)) ≡ h ⊗ q ⊗ (a ⊕ g ⊗ b)
+      later q a b = ring L (q ∷ a ∷ b ∷ g ∷ h ∷ []) (search reading depth 25) tt
+
+      at : (j : ℕ) → ((i : ℕ) → E i ≡ pow R h i ⊗ S i) → constS R (f 0) j ⊕ mulS R (consS R g (constS R h)) E j ≡ pow R h j ⊗ shift R g (suc N) f j
+      at zero ih =
+          rw (constS-zero R (f 0), mulS-zero R (consS R g (constS R h)) E, ih 0, shift-at-zero L g N f, pow-zero R h) (first (f 0) (S 0))
+      at (suc j) ih =
+          rw (constS-suc R (f 0) j, mulS-suc R (consS R g (constS R h)) E j, mul-const L h E, scaleS-at R h E j, ih j, ih (suc j), shift-at-suc L g N f j, pow-suc R h j) (later (pow R h j) (S j) (S (suc j)))
 
 -- shifting commutes with carrying the coefficients over
 module _ {R S : Ring} {to : R .Car → S .Car} (φ : Hom R S to) where
