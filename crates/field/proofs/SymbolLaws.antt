@@ -7,8 +7,7 @@ use Prim.Native.Nat.{ℕ, _+_, _-_, _*_, _/_, _%_, _<_}
 use native.Mathlib.Nat.{add-assoc, add-comm, add-zero, mul-comm, mul-assoc, mul-one, mul-add, add-mul, mod-lt, mod-eq-of-lt, mod-add-mod, add-mod-mod, mod-self, zero-mod, div-add-mod, mul-add-mod-self-left}
 use native.Mathlib.Omega.{arith}
 use lib.Dec.{T, eqb, eqb→eq}
-use Rattle.field.specs.Ring.{RingLaws}
-use Rattle.field.specs.Field.{FieldLaws}
+use Rattle.field.specs.Field.{RingLaws, FieldLaws}
 use Rattle.field.specs.Symbols.{or, listed, Listed, Element, symbol, same-byte, inverseNumber, sumOf, productOf, negativeOf, inverseOf, sameSymbol, symbols}
 use Rattle.field.proofs.FieldLaws.{cancel}
 use Rattle.field.proofs.Tests.{all, all-at, or-cases, or-right}

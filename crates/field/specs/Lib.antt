@@ -1,4 +1,3 @@
-pub mod Ring
 pub mod Field
 pub mod Lists
 pub mod Symbols

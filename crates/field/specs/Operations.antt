@@ -2,8 +2,7 @@
 --   plusBytes p a b   the byte of the sum of two bytes' symbols; minusBytes, timesBytes, negByte and invByte likewise
 --   Operand p a       p is listed and a is a symbol's byte; Operands p a b  both are
 use Prim.Native.Nat.{ℕ, _<_}
-use Rattle.field.specs.Ring.{Ring}
-use Rattle.field.specs.Field.{Field}
+use Rattle.field.specs.Field.{Ring, Field}
 use Rattle.field.specs.Symbols.{Listed, Element, symbol, symbols}
 
 pub record Operand (p a : ℕ) : Type 0 where

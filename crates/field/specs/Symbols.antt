@@ -3,6 +3,7 @@
 --   Element p           a symbol, that is, a number that is its own remainder modulo p
 --   symbol p n          the symbol of a number
 --   symbols p           the symbols with their operations; a field where p is listed (proofs/SymbolLaws.antt)
+--   symbolsOf p xs      the symbols of bytes, by their places; zero past the end
 use mathlib.Core.Path.{_≡_, ap}
 use mathlib.Core.Bool.{Bool, true, false}
 use mathlib.Core.List.{List, [], _∷_}
@@ -11,8 +12,8 @@ use Prim.Native.Nat.{ℕ, zero, suc, _+_, _-_, _*_, _%_, _<_}
 use native.Mathlib.Nat.{mod-mod}
 use native.Mathlib.Decide.{ℕ-discrete}
 use lib.Dec.{T, eqb}
-use Rattle.field.specs.Ring.{Ring}
-use Rattle.field.specs.Field.{Field}
+use lib.ListN.{getD}
+use Rattle.field.specs.Field.{Ring, Field}
 
 abbrev pub or : Bool → Bool → Bool
 or true b = true
@@ -88,3 +89,6 @@ module _ (p : ℕ) where
         inv = inverseOf;
         same? = sameSymbol;
       }
+
+  abbrev pub symbolsOf : List ℕ → ℕ → Element p
+  symbolsOf xs = λ i. symbol p (getD xs i 0)

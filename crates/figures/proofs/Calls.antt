@@ -9,16 +9,15 @@ use native.Mathlib.Omega.{arith}
 use lib.ListN.{length, getD, take}
 use lib.Seq.{ext-getD, getD-take, length-take-le}
 use Rattle.field.specs.Field.{FieldLaws}
-use Rattle.field.specs.Symbols.{symbols}
+use Rattle.field.specs.Symbols.{symbols, symbolsOf}
 use Rattle.field.proofs.SymbolLaws.{symbols-field, zero-byte}
 use Rattle.poly.specs.Polynomials.{Seq, Through, locator}
-use Rattle.poly.specs.Encode.{symbolsOf}
 use Rattle.poly.proofs.Interpolating.{places-distinct}
 use Rattle.rows.specs.Curves.{Curve, Smallest}
 use Rattle.rows.specs.Start.{startRow}
 use Rattle.rows.specs.Turns.{Outcome, Turn}
 use Rattle.rows.specs.Entry.{Sound}
-use Rattle.rows.specs.Runs.{Fresh, none, turn}
+use Rattle.rows.proofs.Promises.{Fresh, none, turn}
 use Rattle.rows.specs.Finish.{Lightest, monic}
 use Rattle.rows.specs.Bytes.{slot, curveBytes, rowsOf, HoldsCurve}
 use Rattle.rows.specs.Jobs.{HasTurned, Goes, HasHeight}

@@ -8,13 +8,12 @@ use native.Mathlib.Omega.{arith}
 use lib.Dec.{T, eqb, ltb, ltb→lt, eqb→eq, eqb-refl, T-not}
 use lib.ListN.{length, getD, List·getD-eq-default}
 use Rattle.field.specs.Field.{FieldLaws}
-use Rattle.field.specs.Symbols.{Listed, listed, symbol, symbols, same-byte}
+use Rattle.field.specs.Symbols.{Listed, listed, symbol, symbols, same-byte, symbolsOf}
 use Rattle.field.proofs.SymbolLaws.{symbols-field}
 use Rattle.field.proofs.Tests.{all, all-at}
 use Rattle.poly.specs.Polynomials.{value, Distinct, Through}
 use Rattle.poly.specs.Table.{Repeated}
 use Rattle.poly.specs.Buffers.{AllBelow, Places}
-use Rattle.poly.specs.Encode.{symbolsOf}
 use Rattle.poly.proofs.Interpolating.{places-distinct}
 use Rattle.rows.specs.Curves.{Curve}
 use Rattle.rows.specs.Bytes.{slot, rowsBytes, HoldsCurve}

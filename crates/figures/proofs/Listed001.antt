@@ -7,9 +7,8 @@ use native.Mathlib.Omega.{arith}
 use lib.ListN.{length}
 use lib.Seq.{ext-getD}
 use Rattle.field.specs.Field.{Field}
-use Rattle.field.specs.Symbols.{Element, symbol, symbols}
+use Rattle.field.specs.Symbols.{Element, symbol, symbols, symbolsOf}
 use Rattle.poly.specs.Polynomials.{Seq, value}
-use Rattle.poly.specs.Encode.{symbolsOf}
 use Rattle.poly.proofs.Evaluation.{value-more}
 use Rattle.poly.proofs.TableLaws.{first-determined}
 use Rattle.rows.proofs.Least.{weight-unique}

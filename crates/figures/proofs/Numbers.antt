@@ -7,10 +7,10 @@ use native.Mathlib.Omega.{arith}
 use lib.ListN.{length}
 use borrow.Author.Needs.{needs}
 use Rattle.field.specs.Symbols.{Listed, listed}
-use Rattle.poly.specs.Table.{First}
+use Rattle.poly.specs.Table.{First, BadHeights}
 use Rattle.poly.specs.Encode.{encodeTable}
 use Rattle.poly.proofs.TableLaws.{first-determined, first-goes, none-large, good-count, good-degree}
-use Rattle.rows.specs.Jobs.{startTable, BadHeights}
+use Rattle.rows.specs.Jobs.{startTable}
 use Rattle.rows.specs.Work.{requestTable}
 use Rattle.rows.proofs.Accepted.{Accepted}
 use Rattle.near.specs.Job.{workingRoom, listTable}

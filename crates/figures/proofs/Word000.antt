@@ -4,11 +4,9 @@ use mathlib.Core.List.{List, [], _∷_, _++_}
 use Prim.Native.Nat.{ℕ}
 use native.Mathlib.Decide.{decLe, ℕ-discrete}
 use native.Mathlib.Omega.{arith}
-use Rattle.field.specs.Ring.{Ring, pow, prod}
-use Rattle.field.specs.Field.{Field}
-use Rattle.field.specs.Symbols.{symbol, symbols, sumOf, productOf, negativeOf, inverseOf, sameSymbol}
+use Rattle.field.specs.Field.{Ring, pow, prod, Field}
+use Rattle.field.specs.Symbols.{symbol, symbols, sumOf, productOf, negativeOf, inverseOf, sameSymbol, symbolsOf}
 use Rattle.poly.specs.Polynomials.{Seq, zeroS, oneS, addS, negS, scaleS, mulS, consS, constS, xS, lin, value}
-use Rattle.poly.specs.Encode.{symbolsOf}
 use Rattle.rows.specs.Curves.{Curve, Lead}
 use Rattle.rows.specs.Start.{startRow}
 use Rattle.rows.specs.Turns.{mono, finished, rises}

@@ -4,11 +4,10 @@ use Prim.Native.Nat.{ℕ, _-_, _*_}
 use native.Mathlib.Nat.{mul-comm}
 use native.Mathlib.Omega.{arith}
 use lib.ListN.{getD}
-use Rattle.field.specs.Ring.{pow}
-use Rattle.field.specs.Symbols.{symbol}
+use Rattle.field.specs.Field.{pow}
+use Rattle.field.specs.Symbols.{symbol, symbolsOf}
 use Rattle.field.proofs.SymbolLaws.{symbols-field}
 use Rattle.poly.specs.Polynomials.{Seq, Series, xS}
-use Rattle.poly.specs.Encode.{symbolsOf}
 use Rattle.poly.proofs.Interpolating.{places-distinct}
 use Rattle.rows.specs.Curves.{Curve, Smallest}
 use Rattle.rows.specs.Bytes.{HoldsCurve}

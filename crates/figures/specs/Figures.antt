@@ -12,10 +12,10 @@ use mathlib.Core.Logic.{_↔_}
 use mathlib.Core.List.{List, [], _∷_, _++_}
 use Prim.Native.Nat.{ℕ, suc, _-_, _*_, _≤_, _<_}
 use lib.ListN.{length, getD, take}
-use Rattle.field.specs.Ring.{pow}
-use Rattle.field.specs.Symbols.{symbols}
+use Rattle.field.specs.Field.{pow}
+use Rattle.field.specs.Symbols.{symbols, symbolsOf}
 use Rattle.poly.specs.Polynomials.{Seq, Series, xS, Through}
-use Rattle.poly.specs.Encode.{symbolsOf, Encoded}
+use Rattle.poly.specs.Encode.{Encoded}
 use Rattle.rows.specs.Start.{formula}
 use Rattle.rows.specs.Finish.{Lightest}
 use Rattle.rows.specs.Bytes.{curveBytes, rowsBytes, rowsOf, HoldsCurve}

@@ -4,8 +4,7 @@ use mathlib.Core.Path.{_≡_, refl, sym, ap, _∙_}
 use Prim.Native.Nat.{ℕ, zero, suc, _+_, _-_, _*_, _≤_, _<_}
 use native.Mathlib.Nat.{mul-zero, mul-add, mul-le-mul-left}
 use native.Mathlib.Omega.{arith}
-use Rattle.field.specs.Ring.{Ring, RingLaws}
-use Rattle.field.specs.Field.{Field, FieldLaws}
+use Rattle.field.specs.Field.{Ring, RingLaws, Field, FieldLaws}
 use Rattle.poly.specs.Polynomials.{Seq, zeroS, Series, Below, value, Distinct}
 use Rattle.poly.proofs.Series.{series}
 use Rattle.poly.proofs.Bounds.{below-same}
@@ -14,8 +13,7 @@ use Rattle.poly.proofs.Shift.{shift, shift-value, shift-any}
 use Rattle.poly.proofs.Orders.{Ord}
 use Rattle.poly.proofs.Degrees.{sumBelow, sumBelow-zero, sumBelow-suc}
 use Rattle.poly.proofs.Places.{distinct-apart, orders-zero}
-use Rattle.rows.specs.Curves.{Curve, Finite, Under, Lead}
-use Rattle.rows.specs.Multiplicity.{Multiplicity, Passing}
+use Rattle.rows.specs.Curves.{Curve, Finite, Under, Lead, Multiplicity, Passing}
 use Rattle.rows.proofs.Leads.{under-mono}
 use Rattle.rows.proofs.Along.{below-along, along}
 use Rattle.rows.proofs.Multiplicities.{multiplicity-vanish}

@@ -4,13 +4,11 @@ use mathlib.Core.Logic.{_≢_}
 use mathlib.Core.List.{List, []}
 use Prim.Native.Nat.{ℕ, suc, _-_, _*_, _≤_, _<_}
 use lib.ListN.{length, getD}
-use Rattle.field.specs.Ring.{Ring}
-use Rattle.field.specs.Field.{Field, FieldLaws}
+use Rattle.field.specs.Field.{Ring, Field, FieldLaws}
 use Rattle.poly.specs.Polynomials.{Seq, zeroS, Series, value, Distinct}
 use Rattle.poly.proofs.Series.{series}
 use Rattle.poly.proofs.Places.{roots-at-most, polynomials-apart}
-use Rattle.rows.specs.Curves.{Curve, Lead}
-use Rattle.rows.specs.Multiplicity.{Passing}
+use Rattle.rows.specs.Curves.{Curve, Lead, Passing}
 use Rattle.rows.proofs.Heights.{zero-at, height-below}
 use Rattle.rows.proofs.Leads.{lead-nonzero}
 use Rattle.near.specs.Lists.{Task, Numbering, polynomial, Wanted, IsList}

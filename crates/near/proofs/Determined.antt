@@ -7,9 +7,8 @@ use native.Mathlib.Decide.{ℕ-discrete, decLt}
 use native.Mathlib.Omega.{arith}
 use lib.ListN.{length, getD}
 use lib.Seq.{getD-take}
-use Rattle.field.specs.Symbols.{symbols}
+use Rattle.field.specs.Symbols.{symbols, symbolsOf}
 use Rattle.field.proofs.SymbolLaws.{symbols-field}
-use Rattle.poly.specs.Encode.{symbolsOf}
 use Rattle.poly.specs.Buffers.{Places}
 use Rattle.poly.proofs.TableLaws.{first-determined}
 use Rattle.poly.proofs.Places.{distinct-apart}

@@ -6,8 +6,7 @@ use Prim.Native.Nat.{ℕ, zero, suc, _+_, _-_, _*_, _≤_, _<_, zero-le}
 use native.Mathlib.Nat.{add-sub-cancel, mul-le-mul-right}
 use native.Mathlib.Omega.{arith}
 use native.Mathlib.Decide.{decLe, decLt}
-use Rattle.field.specs.Ring.{Ring, RingLaws}
-use Rattle.field.specs.Field.{Field, FieldLaws}
+use Rattle.field.specs.Field.{Ring, RingLaws, Field, FieldLaws}
 use Rattle.poly.specs.Polynomials.{Seq, zeroS, addS, negS, mulS, Series, Below, value}
 use Rattle.poly.proofs.Series.{series, zeroS-at}
 use Rattle.poly.proofs.Shift.{shift, shift-null, shift-back, below-shift}

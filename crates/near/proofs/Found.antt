@@ -7,8 +7,7 @@ use native.Mathlib.Omega.{arith}
 use native.Mathlib.Decide.{decLe}
 use lib.ListN.{length}
 use lib.Seq.{append-snoc}
-use Rattle.field.specs.Ring.{Ring, RingLaws}
-use Rattle.field.specs.Field.{Field, FieldLaws}
+use Rattle.field.specs.Field.{Ring, RingLaws, Field, FieldLaws}
 use Rattle.poly.specs.Polynomials.{Seq, zeroS, Series, value}
 use Rattle.poly.proofs.Series.{series, zeroS-at}
 use Rattle.poly.proofs.Shift.{shift, shift-shift, shift-none}

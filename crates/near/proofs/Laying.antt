@@ -6,7 +6,7 @@ use Prim.Native.Nat.{ℕ, suc, _+_, _-_, _*_, _≤_, _<_}
 use native.Mathlib.Nat.{mul-le-mul}
 use native.Mathlib.Omega.{arith}
 use lib.ListN.{length, getD}
-use Rattle.field.specs.Ring.{RingLaws}
+use Rattle.field.specs.Field.{RingLaws}
 use Rattle.field.specs.Symbols.{symbol, symbols}
 use Rattle.field.proofs.SymbolLaws.{symbol-own, byte-below, symbols-field, zero-byte}
 use Rattle.rows.specs.Curves.{Curve, Height, Under}

@@ -9,18 +9,16 @@ use native.Mathlib.Decide.{ℕ-discrete}
 use native.Mathlib.Omega.{arith}
 use lib.ListN.{length}
 use borrow.Author.Needs.{needs}
-use Rattle.field.specs.Symbols.{symbols}
-use Rattle.field.specs.Ring.{Ring}
-use Rattle.field.specs.Field.{FieldLaws}
+use Rattle.field.specs.Symbols.{symbols, symbolsOf}
+use Rattle.field.specs.Field.{Ring, FieldLaws}
 use Rattle.field.proofs.SymbolLaws.{symbols-field}
 use Rattle.poly.specs.Polynomials.{locator}
-use Rattle.poly.specs.Encode.{symbolsOf}
-use Rattle.poly.specs.Table.{First, NotListed, BadCount, BadDegree}
+use Rattle.poly.specs.Table.{First, NotListed, BadCount, BadDegree, BadHeights}
 use Rattle.poly.proofs.TableLaws.{first-determined, first-passed, passed-first}
 use Rattle.poly.proofs.Interpolation.{interpolate}
 use Rattle.poly.proofs.Interpolating.{places-distinct}
 use Rattle.rows.specs.Bytes.{shape, curveBytes, rowsOf, Untouched}
-use Rattle.rows.specs.Jobs.{BadHeights, startTable, BadNote, size, count, degree, heights, row, HasStarted, Goes, HasTurned, HasFinished}
+use Rattle.rows.specs.Jobs.{startTable, BadNote, size, count, degree, heights, row, HasStarted, Goes, HasTurned, HasFinished}
 use Rattle.rows.specs.Curves.{Curve, Under}
 use Rattle.rows.specs.Start.{startRow}
 use Rattle.rows.specs.Demands.{Request, ringFor, shapeFor, noteFor, updatesBound, Begun, started, turned}

@@ -6,8 +6,7 @@ use native.Mathlib.Nat.{add-zero as n-add-zero, mod-lt}
 use native.Mathlib.Omega.{arith}
 use lib.ListN.{length, getD, List·getD-append, List·getD-eq-default}
 use lib.Seq.{ext-getD, getD-append-add}
-use Rattle.field.specs.Ring.{Ring, RingLaws}
-use Rattle.field.specs.Field.{Field, FieldLaws}
+use Rattle.field.specs.Field.{Ring, RingLaws, Field, FieldLaws}
 use Rattle.field.specs.Symbols.{Listed, symbol, symbols}
 use Rattle.field.proofs.RingLaws.{add-zero, zero-add, one-mul}
 use Rattle.field.proofs.SymbolLaws.{symbol-byte, symbol-injective}

@@ -4,7 +4,7 @@ use mathlib.Core.Path.{_≡_, refl, sym, ap, _∙_, fun-ext}
 use Prim.Native.Nat.{ℕ, zero, suc, _+_, _-_, _≤_, _<_}
 use native.Mathlib.Omega.{arith}
 use native.Mathlib.Decide.{decLt}
-use Rattle.field.specs.Ring.{Ring, RingLaws}
+use Rattle.field.specs.Field.{Ring, RingLaws}
 use Rattle.field.proofs.RingLaws.{add-zero, mul-zero}
 use Rattle.poly.specs.Polynomials.{Seq, tail, mulS, Series, consS, Below}
 use Rattle.poly.proofs.Series.{series, addS-at}

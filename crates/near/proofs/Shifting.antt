@@ -7,7 +7,7 @@ use native.Mathlib.Nat.{mul-le-mul-left, suc-mul}
 use native.Mathlib.Decide.{decLe, decLt, ℕ-discrete}
 use native.Mathlib.Omega.{arith}
 use lib.ListN.{getD}
-use Rattle.field.specs.Ring.{Ring, RingLaws}
+use Rattle.field.specs.Field.{Ring, RingLaws}
 use Rattle.field.specs.Symbols.{Element, symbol, symbols, sumOf, productOf}
 use Rattle.field.specs.Operations.{negByte}
 use Rattle.field.specs.Kernels.{Subtracts, subtracted}

@@ -4,7 +4,7 @@ use mathlib.Core.Path.{_≡_, sym, ap, _∙_, fun-ext}
 use Prim.Native.Nat.{ℕ, _+_, _-_, _*_, _≤_, _<_}
 use native.Mathlib.Omega.{arith}
 use native.Mathlib.Decide.{decLe}
-use Rattle.field.specs.Ring.{Ring, RingLaws, pow}
+use Rattle.field.specs.Field.{Ring, RingLaws, pow}
 use Rattle.field.proofs.RingLaws.{one-mul}
 use Rattle.poly.specs.Polynomials.{Seq, zeroS, mulS, Series, value}
 use Rattle.poly.proofs.Series.{series, zeroS-at}

@@ -2,7 +2,7 @@
 use mathlib.Core.Path.{_≡_, sym, ap, _∙_}
 use Prim.Native.Nat.{ℕ, zero, suc, _+_, _-_, _*_, _≤_, zero-le}
 use native.Mathlib.Omega.{arith}
-use Rattle.field.specs.Ring.{Ring, RingLaws}
+use Rattle.field.specs.Field.{Ring, RingLaws}
 use Rattle.poly.specs.Polynomials.{Seq, tail, Series, Below, value}
 use Rattle.poly.proofs.Series.{series}
 use Rattle.poly.proofs.Bounds.{below-add, below-same, below-product}

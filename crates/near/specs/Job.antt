@@ -14,16 +14,13 @@ use mathlib.Core.Logic.{_⊎_}
 use mathlib.Core.List.{List, [], _∷_, _++_}
 use Prim.Native.Nat.{ℕ, suc, _-_, _*_, _≤_, _<_}
 use lib.ListN.{length, getD, take}
-use Rattle.field.specs.Symbols.{symbols}
+use Rattle.field.specs.Symbols.{symbols, symbolsOf}
 use Rattle.poly.specs.Polynomials.{Seq, locator, Through}
-use Rattle.poly.specs.Encode.{symbolsOf}
-use Rattle.poly.specs.Table.{Refusal, First, NotListed, BadCount, BadDegree, TooLarge, Repeated, TooShort}
-use Rattle.rows.specs.Curves.{Curve, Smallest}
-use Rattle.rows.specs.Multiplicity.{Passing}
+use Rattle.poly.specs.Table.{Refusal, First, NotListed, BadCount, BadDegree, TooLarge, Repeated, TooShort, BadHeights}
+use Rattle.rows.specs.Curves.{Curve, Smallest, Passing}
 use Rattle.rows.specs.Start.{startRow}
 use Rattle.rows.specs.Turns.{Outcome, Turn}
 use Rattle.rows.specs.Bytes.{Untouched}
-use Rattle.rows.specs.Jobs.{BadHeights}
 use Rattle.near.specs.Lists.{task, IsList}
 use Rattle.near.specs.declared.Near.{Near}
 

@@ -17,9 +17,8 @@ use mathlib.Core.List.{List, [], _∷_, List·Memᴰ}
 use Prim.Native.Nat.{ℕ, zero, suc, _+_, _≤_, _<_}
 use lib.ListN.{length, getD}
 use Rattle.field.specs.Field.{Field}
-use Rattle.field.specs.Symbols.{symbol, symbols}
+use Rattle.field.specs.Symbols.{symbol, symbols, symbolsOf}
 use Rattle.poly.specs.Polynomials.{Seq, Below, value}
-use Rattle.poly.specs.Encode.{symbolsOf}
 
 pub record Task (F : Field) : Type 0 where
   pub p : ℕ

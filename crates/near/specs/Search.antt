@@ -19,8 +19,7 @@ use mathlib.Core.List.{List, [], _∷_, _++_}
 use Prim.Native.Nat.{ℕ, zero, suc, _-_, _*_, _<_}
 use native.Mathlib.Decide.{decLe}
 use lib.ListN.{length}
-use Rattle.field.specs.Ring.{Ring}
-use Rattle.field.specs.Field.{Field}
+use Rattle.field.specs.Field.{Ring, Field}
 use Rattle.poly.specs.Polynomials.{Seq, Series, oneS, consS, constS, value}
 use Rattle.rows.specs.Curves.{Curve}
 use Rattle.rows.specs.Turns.{choose, mono}

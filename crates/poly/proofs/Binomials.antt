@@ -4,7 +4,7 @@ use Prim.Native.Nat.{ℕ, zero, suc, _+_, _-_, _<_}
 use native.Mathlib.Decide.{decLt}
 use native.Mathlib.Nat.{suc-sub-suc, sub-zero}
 use native.Mathlib.Omega.{arith}
-use Rattle.field.specs.Ring.{Ring, RingLaws, pow, multiple, sum}
+use Rattle.field.specs.Field.{Ring, RingLaws, pow, multiple, sum}
 use Rattle.field.proofs.RingLaws.{zero-add, one-mul, mul-assoc, multiple-one, multiple-add, multiple-scale}
 use Rattle.field.proofs.Sums.{pow-zero, pow-suc, sum-zero, sum-front, sum-cong, sum-add, sum-mul}
 use Rattle.poly.specs.Polynomials.{Seq, tail, binomial}

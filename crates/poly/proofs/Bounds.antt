@@ -3,7 +3,7 @@ use mathlib.Core.Path.{_≡_, refl, ap, _∙_, fun-ext}
 use Prim.Native.Nat.{ℕ, zero, suc, _+_, _≤_, zero-le, suc-le-suc, _-_}
 use native.Mathlib.Decide.{ℕ-discrete, decLe}
 use native.Mathlib.Omega.{arith}
-use Rattle.field.specs.Ring.{Ring, RingLaws}
+use Rattle.field.specs.Field.{Ring, RingLaws}
 use Rattle.field.proofs.RingLaws.{add-zero, mul-zero, zero-mul, neg-zero}
 use Rattle.poly.specs.Polynomials.{Seq, tail, zeroS, oneS, addS, negS, scaleS, mulS, consS, constS, lin, Below}
 use Rattle.poly.proofs.Series.{series, zeroS-at, addS-at, negS-at, scaleS-at, mulS-zero, mulS-suc}

@@ -3,7 +3,7 @@ use mathlib.Core.Path.{_≡_, refl, sym, _∙_, fun-ext, ap}
 use mathlib.Core.Logic.{_≢_}
 use mathlib.Core.List.{[], _∷_}
 use Prim.Native.Nat.{ℕ, zero, suc}
-use Rattle.field.specs.Ring.{Ring, RingLaws, pow}
+use Rattle.field.specs.Field.{Ring, RingLaws, pow}
 use Rattle.field.proofs.RingLaws.{add-zero, zero-add, mul-zero, zero-mul, one-mul, add-neg, neg-unique}
 use Rattle.field.proofs.RingTactic.{ring}
 use Rattle.field.proofs.Sums.{pow-zero, pow-suc}

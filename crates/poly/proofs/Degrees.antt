@@ -4,8 +4,7 @@ use mathlib.Core.Logic.{_≢_, _⊎_, inl, inr}
 use Prim.Native.Nat.{ℕ, zero, suc, _+_, _-_, _*_, _<_}
 use native.Mathlib.Decide.{decLt}
 use native.Mathlib.Omega.{arith}
-use Rattle.field.specs.Ring.{Ring, RingLaws, pow, prod}
-use Rattle.field.specs.Field.{Field, FieldLaws}
+use Rattle.field.specs.Field.{Ring, RingLaws, pow, prod, Field, FieldLaws}
 use Rattle.field.proofs.RingLaws.{zero-mul, mul-zero, mul-one}
 use Rattle.field.proofs.Sums.{pow-zero, pow-suc, prod-zero, prod-suc}
 use Rattle.poly.specs.Polynomials.{Seq, zeroS, oneS, mulS, Series, consS, lin, Below, locator, xS}

@@ -2,7 +2,7 @@
 use mathlib.Core.Path.{_≡_, refl, _∙_}
 use mathlib.Core.List.{[], _∷_}
 use Prim.Native.Nat.{ℕ, zero, suc}
-use Rattle.field.specs.Ring.{Ring, RingLaws}
+use Rattle.field.specs.Field.{Ring, RingLaws}
 use Rattle.field.proofs.RingLaws.{zero-add}
 use Rattle.field.proofs.RingTactic.{ring}
 use Rattle.poly.specs.Polynomials.{Seq, tail, zeroS, Series, consS, constS, xS, lin, Below, value}

@@ -5,7 +5,7 @@ use mathlib.Core.List.{[], _∷_}
 use Prim.Native.Nat.{ℕ, zero, suc, _+_, _≤_}
 use native.Mathlib.Nat.{suc-add, zero-add as n-zero-add}
 use native.Mathlib.Omega.{arith}
-use Rattle.field.specs.Ring.{Ring, RingLaws, pow, sum}
+use Rattle.field.specs.Field.{Ring, RingLaws, pow, sum}
 use Rattle.field.proofs.RingLaws.{add-zero, zero-add, mul-zero, zero-mul, neg-unique, add-neg, mul-left-comm, mul-assoc}
 use Rattle.field.proofs.RingTactic.{ring, reading}
 use Rattle.field.proofs.Sums.{pow-zero, pow-suc, sum-zero, sum-front, sum-cong, sum-mul}

@@ -5,8 +5,7 @@ use mathlib.Core.List.{[], _∷_}
 use Prim.Native.Nat.{ℕ, zero, suc, _+_, _<_}
 use native.Mathlib.Decide.{ℕ-discrete}
 use native.Mathlib.Omega.{arith}
-use Rattle.field.specs.Ring.{Ring, RingLaws, prod}
-use Rattle.field.specs.Field.{Field, FieldLaws}
+use Rattle.field.specs.Field.{Ring, RingLaws, prod, Field, FieldLaws}
 use Rattle.field.proofs.RingLaws.{add-neg, mul-zero, zero-mul, difference-zero}
 use Rattle.field.proofs.RingTactic.{ring, reading}
 use Rattle.field.proofs.Sums.{prod-zero, prod-suc}

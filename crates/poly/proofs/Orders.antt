@@ -6,8 +6,7 @@ use Prim.Native.Nat.{ℕ, zero, suc, _+_, _-_, _<_}
 use native.Mathlib.Decide.{decLt, ℕ-discrete}
 use native.Mathlib.Nat.{zero-add}
 use native.Mathlib.Omega.{arith}
-use Rattle.field.specs.Ring.{Ring, RingLaws}
-use Rattle.field.specs.Field.{Field, FieldLaws}
+use Rattle.field.specs.Field.{Ring, RingLaws, Field, FieldLaws}
 use Rattle.field.proofs.RingLaws.{add-zero, add-neg, neg-zero, zero-mul, mul-zero, one-mul}
 use Rattle.field.proofs.Sums.{sum-null}
 use Rattle.field.proofs.FieldLaws.{no-zero-divisor}

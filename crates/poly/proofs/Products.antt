@@ -8,13 +8,12 @@ use native.Mathlib.Decide.{ℕ-discrete}
 use native.Mathlib.Omega.{arith}
 use lib.ListN.{length, getD, set, length-set, List·getD-eq-default}
 use lib.Seq.{getD-set-same, getD-set-other}
-use Rattle.field.specs.Ring.{Ring, RingLaws, sum}
-use Rattle.field.specs.Symbols.{Listed, Element, symbol, symbols, productOf}
+use Rattle.field.specs.Field.{Ring, RingLaws, sum}
+use Rattle.field.specs.Symbols.{Listed, Element, symbol, symbols, productOf, symbolsOf}
 use Rattle.field.proofs.RingLaws.{add-zero, zero-mul}
 use Rattle.field.proofs.Sums.{sum-split, sum-null}
 use Rattle.field.proofs.SymbolLaws.{symbol-plus, symbol-times, symbol-same, symbols-field}
 use Rattle.poly.specs.Polynomials.{Seq, tail, mulS}
-use Rattle.poly.specs.Encode.{symbolsOf}
 use Rattle.poly.specs.Buffers.{from, productFrom, Kept, Product}
 use Rattle.poly.proofs.Series.{mulS-zero, mulS-suc, mulS-sum}
 

@@ -7,7 +7,7 @@ use mathlib.Core.HLevel.{→-set}
 use Prim.Native.Nat.{ℕ, zero, suc, _+_, _-_, _<_}
 use native.Mathlib.Nat.{suc-sub-suc, sub-zero, add-sub-cancel-left}
 use native.Mathlib.Omega.{arith}
-use Rattle.field.specs.Ring.{Ring, RingLaws, multiple, sum}
+use Rattle.field.specs.Field.{Ring, RingLaws, multiple, sum}
 use Rattle.field.proofs.RingLaws.{add-assoc, add-comm, add-zero, add-neg, mul-assoc, mul-comm, one-mul, add-mul, zero-mul}
 use Rattle.field.proofs.RingTactic.{ring, reading, At, Read, here, there, r-atom}
 use Rattle.field.proofs.Sums.{sum-zero, sum-suc, sum-one, sum-front, sum-single}

@@ -4,7 +4,7 @@ use mathlib.Core.List.{[], _∷_}
 use Prim.Native.Nat.{ℕ, zero, suc, _+_, _≤_}
 use native.Mathlib.Nat.{add-zero as n-add-zero}
 use native.Mathlib.Omega.{arith}
-use Rattle.field.specs.Ring.{Ring, RingLaws, pow, sum}
+use Rattle.field.specs.Field.{Ring, RingLaws, pow, sum}
 use Rattle.field.proofs.RingLaws.{one-mul, add-neg, neg-add-self, add-zero, mul-zero}
 use Rattle.field.proofs.RingTactic.{ring, reading}
 use Rattle.field.proofs.Sums.{pow-zero, pow-suc}

@@ -18,12 +18,12 @@ use mathlib.Core.Logic.{_⊎_}
 use mathlib.Core.List.{List}
 use Prim.Native.Nat.{ℕ, _+_, _≤_, _<_}
 use lib.ListN.{length, getD, take, drop}
-use Rattle.field.specs.Symbols.{Listed, symbol, symbols}
+use Rattle.field.specs.Symbols.{Listed, symbol, symbols, symbolsOf}
 use Rattle.field.specs.Operations.{minusBytes, timesBytes, invByte}
 use Rattle.field.specs.Kernels.{Region}
 use Rattle.poly.specs.Polynomials.{Seq, mulS, locator, Through}
 use Rattle.poly.specs.Table.{Repeated}
-use Rattle.poly.specs.Encode.{symbolsOf, valueAt}
+use Rattle.poly.specs.Encode.{valueAt}
 
 pub record Decided (answer : Bool) (P : Type 0) : Type 0 where
   pub holds : answer ≡ true → P

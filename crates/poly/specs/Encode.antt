@@ -1,6 +1,5 @@
 -- Encoding: byte s of the word is the message's value at point s.
---   symbolsOf p xs     the polynomial whose coefficients the bytes xs are
---   valueAt p xs a     its value at the point a
+--   valueAt p xs a     the value at the point a of the polynomial whose coefficients the bytes xs are
 --   encodeTable        when encode refuses; n is the count of points and k the message's length
 --   Encoded            what encode leaves: the number, and every byte of the lent word
 use mathlib.Core.Path.{_≡_}
@@ -8,12 +7,9 @@ use mathlib.Core.Logic.{_⊎_}
 use mathlib.Core.List.{List, [], _∷_}
 use Prim.Native.Nat.{ℕ, _≤_, _<_}
 use lib.ListN.{length, getD}
-use Rattle.field.specs.Symbols.{Element, symbol, symbols}
-use Rattle.poly.specs.Polynomials.{Seq, value}
+use Rattle.field.specs.Symbols.{Element, symbol, symbols, symbolsOf}
+use Rattle.poly.specs.Polynomials.{value}
 use Rattle.poly.specs.Table.{Refusal, First, NotListed, BadCount, BadDegree, TooLarge, Repeated, TooShort}
-
-abbrev pub symbolsOf : (p : ℕ) → List ℕ → Seq (symbols p .ring)
-symbolsOf p xs = λ i. symbol p (getD xs i 0)
 
 abbrev pub valueAt : (p : ℕ) → List ℕ → ℕ → Element p
 valueAt p xs a = value (symbols p .ring) (symbol p a) (length xs) (symbolsOf p xs)

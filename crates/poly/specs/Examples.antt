@@ -2,7 +2,7 @@
 use mathlib.Core.Path.{_≡_, refl}
 use mathlib.Core.List.{List, [], _∷_}
 use Prim.Native.Nat.{ℕ, suc}
-use Rattle.field.specs.Ring.{Ring, prod}
+use Rattle.field.specs.Field.{Ring, prod}
 use Rattle.field.specs.Symbols.{symbol, symbols, sumOf, productOf, negativeOf}
 use Rattle.poly.specs.Polynomials.{Seq, zeroS, oneS, addS, mulS, consS, constS, xS, lin, locator, value, binomial}
 

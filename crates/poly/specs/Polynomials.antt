@@ -17,7 +17,7 @@
 --   binomial n i       the coefficient of x^i in (1 + x)^n
 use mathlib.Core.Path.{_≡_}
 use Prim.Native.Nat.{ℕ, zero, suc, _+_, _≤_, _<_}
-use Rattle.field.specs.Ring.{Ring, prod}
+use Rattle.field.specs.Field.{Ring, prod}
 
 module _ (R : Ring) where
   open Ring R using (Car, 𝟘, 𝟙, plus as _⊕_, times as _⊗_, neg as ⊖_)

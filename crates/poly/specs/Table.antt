@@ -4,6 +4,7 @@
 --   NotListed p            1: p is not one of the ten
 --   BadCount p n           2: n below 3 or above p
 --   BadDegree n k          4: k below 2 or above n - 1
+--   BadHeights m l         5: m or l out of its range
 --   TooLarge p xs          6: a point or symbol is p or more
 --   Repeated xs            7: two points are equal
 --   TooShort size room     9: a lent buffer is too short
@@ -30,6 +31,9 @@ BadCount p n = (n < 3) ⊎ (p < n)
 
 abbrev pub BadDegree : ℕ → ℕ → Type 0
 BadDegree n k = (k < 2) ⊎ (n ≤ k)
+
+abbrev pub BadHeights : ℕ → ℕ → Type 0
+BadHeights m l = (m < 1) ⊎ ((4 < m) ⊎ ((l < m) ⊎ (8 < l)))
 
 pub record TooLarge (p : ℕ) (xs : List ℕ) : Type 0 where
   pub place : ℕ

@@ -4,7 +4,7 @@ use mathlib.Core.Path.{_≡_, sym, ap, _∙_}
 use mathlib.Core.List.{[], _∷_}
 use Prim.Native.Nat.{ℕ, zero, suc, pred, _+_, _-_, _*_, _<_}
 use native.Mathlib.Omega.{arith}
-use Rattle.field.specs.Ring.{Ring, RingLaws}
+use Rattle.field.specs.Field.{Ring, RingLaws}
 use Rattle.field.proofs.RingTactic.{ring}
 use Rattle.poly.specs.Polynomials.{Seq, Series, tail, constS, Below, Through}
 use Rattle.poly.proofs.Series.{series, readings, zeroS-at}

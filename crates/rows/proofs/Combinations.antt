@@ -4,7 +4,7 @@ use mathlib.Core.Path.{_≡_, sym, ap, ap₂, _∙_, fun-ext}
 use mathlib.Core.List.{[], _∷_}
 use Prim.Native.Nat.{ℕ, _+_, _-_, _<_, min}
 use native.Mathlib.Omega.{arith}
-use Rattle.field.specs.Ring.{Ring, RingLaws, pow, sum}
+use Rattle.field.specs.Field.{Ring, RingLaws, pow, sum}
 use Rattle.field.proofs.RingLaws.{neg-add-self}
 use Rattle.field.proofs.RingTactic.{ring}
 use Rattle.field.proofs.Sums.{pow-zero, sum-cong, sum-split, sum-mul}

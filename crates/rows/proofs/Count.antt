@@ -6,13 +6,12 @@ use Prim.Native.Nat.{ℕ, suc, _+_, _-_, _*_, _≤_, _<_}
 use native.Mathlib.Omega.{arith}
 use native.Mathlib.Nat.{mul-le-mul}
 use native.Mathlib.Decide.{decLe}
-use Rattle.field.specs.Ring.{Ring}
-use Rattle.field.specs.Field.{Field, FieldLaws}
+use Rattle.field.specs.Field.{Ring, Field, FieldLaws}
 use Rattle.rows.specs.Curves.{Curve, Zero, Lead, LeadsAt}
 use Rattle.rows.specs.Start.{total}
 use Rattle.rows.specs.Turns.{Due, update, Outcome, Turn, finished, rises, pauses, updates, halts}
 use Rattle.rows.specs.Entry.{Sound}
-use Rattle.rows.specs.Runs.{Fresh}
+use Rattle.rows.proofs.Promises.{Fresh}
 use Rattle.rows.proofs.Leads.{lead-unique, lead-nonzero, lead-within, lead-light}
 use Rattle.rows.proofs.Formula.{total-le}
 use Rattle.rows.proofs.Updates.{update-other}

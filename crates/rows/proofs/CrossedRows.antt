@@ -4,8 +4,7 @@ use mathlib.Core.List.{List}
 use Prim.Native.Nat.{ℕ, _-_, _*_, _≤_, _<_}
 use native.Mathlib.Omega.{arith}
 use lib.ListN.{getD}
-use Rattle.field.specs.Ring.{Ring}
-use Rattle.field.specs.Field.{Field}
+use Rattle.field.specs.Field.{Ring, Field}
 use Rattle.field.specs.Symbols.{Element, symbols}
 use Rattle.field.specs.Operations.{timesBytes, invByte}
 use Rattle.field.proofs.OperationLaws.{symbol-invByte}

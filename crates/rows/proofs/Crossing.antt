@@ -3,7 +3,7 @@ use mathlib.Core.Path.{_≡_, ap, ap₂, _∙_}
 use mathlib.Core.List.{[], _∷_}
 use Prim.Native.Nat.{ℕ, _+_}
 use native.Mathlib.Omega.{arith}
-use Rattle.field.specs.Ring.{Ring, RingLaws}
+use Rattle.field.specs.Field.{Ring, RingLaws}
 use Rattle.field.proofs.RingLaws.{add-zero, mul-zero, neg-zero}
 use Rattle.field.proofs.RingTactic.{ring}
 use Rattle.poly.specs.Polynomials.{addS, scaleS}

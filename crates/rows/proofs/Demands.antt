@@ -7,14 +7,12 @@ use native.Mathlib.Nat.{mul-le-mul}
 use native.Mathlib.Omega.{arith}
 use lib.ListN.{length, take}
 use lib.Seq.{getD-take, length-take-le}
-use Rattle.field.specs.Ring.{Ring}
-use Rattle.field.specs.Field.{Field, FieldLaws}
-use Rattle.field.specs.Symbols.{symbols}
+use Rattle.field.specs.Field.{Ring, Field, FieldLaws}
+use Rattle.field.specs.Symbols.{symbols, symbolsOf}
 use Rattle.field.proofs.RingLaws.{mul-zero}
 use Rattle.field.proofs.FieldLaws.{no-zero-divisor}
 use Rattle.field.proofs.SymbolLaws.{symbols-field}
 use Rattle.poly.specs.Polynomials.{locator}
-use Rattle.poly.specs.Encode.{symbolsOf}
 use Rattle.poly.specs.Buffers.{AllBelow}
 use Rattle.poly.proofs.TableLaws.{first-determined, none-large}
 use Rattle.poly.proofs.Interpolation.{interpolate}
@@ -22,7 +20,7 @@ use Rattle.poly.proofs.Interpolating.{places-distinct}
 use Rattle.rows.specs.Curves.{Curve, Lead, Smallest}
 use Rattle.rows.specs.Start.{startRow, total, formula}
 use Rattle.rows.specs.Turns.{Outcome, stops, Turn, finished, rises, pauses, updates, halts}
-use Rattle.rows.specs.Runs.{allowed, after, Run, none, Promised}
+use Rattle.rows.proofs.Promises.{allowed, after, Run, none, Promised}
 use Rattle.rows.specs.Finish.{monic}
 use Rattle.rows.specs.Bytes.{rowsBytes, curveBytes, rowsOf}
 use Rattle.rows.specs.Jobs.{AsLeft, HasTurned, HasHeight, HasFinished, Hands, turnTable, finishTable}

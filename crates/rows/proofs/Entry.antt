@@ -4,8 +4,7 @@ use mathlib.Core.Logic.{_≢_, _⊎_, inl, inr}
 use Prim.Native.Nat.{ℕ, zero, suc, _≤_, _<_, max, min}
 use native.Mathlib.Omega.{arith}
 use native.Mathlib.Decide.{ℕ-discrete}
-use Rattle.field.specs.Ring.{Ring}
-use Rattle.field.specs.Field.{Field, FieldLaws}
+use Rattle.field.specs.Field.{Ring, Field, FieldLaws}
 use Rattle.rows.specs.Curves.{Curve, Height, Zero, Under, LeadsAt}
 use Rattle.rows.specs.Turns.{Due, update}
 use Rattle.rows.specs.Entry.{Sound}

@@ -8,10 +8,9 @@ use native.Mathlib.Numerals.{add-one}
 use native.Mathlib.Decide.{ℕ-discrete}
 use native.Mathlib.Omega.{arith}
 use lib.ListN.{length, getD, take, drop}
-use Rattle.field.specs.Symbols.{Listed, symbols}
+use Rattle.field.specs.Symbols.{Listed, symbols, symbolsOf}
 use Rattle.field.proofs.SymbolLaws.{symbols-field, zero-byte}
 use Rattle.poly.specs.Polynomials.{Series, zeroS, consS}
-use Rattle.poly.specs.Encode.{symbolsOf}
 use Rattle.poly.specs.Buffers.{AllBelow, Kept}
 use Rattle.poly.proofs.BufferLaws.{below-take, below-drop}
 use Rattle.rows.specs.Curves.{Curve}

@@ -4,7 +4,7 @@ use mathlib.Core.Path.{_≡_, refl, sym, _∙_}
 use mathlib.Core.List.{[], _∷_}
 use Prim.Native.Nat.{ℕ, zero, suc, _-_, _≤_, min}
 use native.Mathlib.Omega.{arith}
-use Rattle.field.specs.Ring.{Ring, RingLaws, pow}
+use Rattle.field.specs.Field.{Ring, RingLaws, pow}
 use Rattle.field.proofs.RingLaws.{add-zero, mul-one, mul-zero, one-mul, neg-mul, neg-zero}
 use Rattle.field.proofs.RingTactic.{ring}
 use Rattle.field.proofs.Sums.{pow-zero, pow-suc}

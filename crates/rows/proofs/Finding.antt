@@ -7,7 +7,7 @@ use Prim.Native.Nat.{ℕ, zero, suc, _+_, _-_, _*_, _≤_, _<_, zero-le}
 use native.Mathlib.Decide.{decLe, ℕ-discrete}
 use native.Mathlib.Omega.{arith}
 use lib.ListN.{getD}
-use Rattle.field.specs.Ring.{Ring}
+use Rattle.field.specs.Field.{Ring}
 use Rattle.field.specs.Symbols.{symbol}
 use Rattle.rows.specs.Curves.{Curve, Zero, Lead, LeadsAt}
 use Rattle.rows.specs.Bytes.{slot, curveBytes, rowsOf, place}

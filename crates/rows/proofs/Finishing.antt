@@ -7,7 +7,7 @@ use native.Mathlib.Decide.{ℕ-discrete, decLt}
 use native.Mathlib.Omega.{arith}
 use lib.ListN.{length, getD}
 use borrow.Author.Needs.{needs}
-use Rattle.field.specs.Ring.{Ring}
+use Rattle.field.specs.Field.{Ring}
 use Rattle.field.specs.Symbols.{symbols}
 use Rattle.poly.specs.Table.{First}
 use Rattle.poly.proofs.TableLaws.{first-determined, first-passed}

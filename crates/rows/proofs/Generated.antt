@@ -4,8 +4,7 @@ use mathlib.Core.Path.{_≡_, sym, ap, _∙_, fun-ext}
 use Prim.Native.Nat.{ℕ, suc, _+_, _-_, _*_, _≤_, _<_}
 use native.Mathlib.Omega.{arith}
 use native.Mathlib.Decide.{decLt}
-use Rattle.field.specs.Ring.{Ring, RingLaws}
-use Rattle.field.specs.Field.{Field, FieldLaws}
+use Rattle.field.specs.Field.{Ring, RingLaws, Field, FieldLaws}
 use Rattle.field.proofs.Sums.{pow-zero, prod-one, prod-pow}
 use Rattle.poly.specs.Polynomials.{Seq, Series, negS, mulS, oneS, lin, Below, Distinct, Through, locator}
 use Rattle.poly.proofs.Series.{series}
@@ -15,8 +14,7 @@ use Rattle.poly.proofs.Shift.{shift, shift-back, shift-forth, below-shift}
 use Rattle.poly.proofs.Orders.{Ord, Vanish}
 use Rattle.poly.proofs.Degrees.{sumBelow}
 use Rattle.poly.proofs.Places.{factorAt, factorsAt, monic-factorsAt, Apart, distinct-apart, Divides, factorsAt-divide, factorsAt-order}
-use Rattle.rows.specs.Curves.{Curve, Finite, Height, Span}
-use Rattle.rows.specs.Multiplicity.{Passing}
+use Rattle.rows.specs.Curves.{Curve, Finite, Height, Span, Passing}
 use Rattle.rows.specs.Start.{startRow}
 use Rattle.rows.proofs.Spans.{span-row}
 use Rattle.rows.proofs.Heights.{height-below}

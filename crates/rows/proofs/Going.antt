@@ -7,8 +7,7 @@ use Prim.Native.Nat.{ℕ, suc, _+_, _-_, _≤_, _<_}
 use native.Mathlib.Nat.{add-zero}
 use native.Mathlib.Omega.{arith}
 use borrow.Author.Needs.{needs}
-use Rattle.field.specs.Ring.{Ring}
-use Rattle.field.specs.Field.{Field, FieldLaws}
+use Rattle.field.specs.Field.{Ring, Field, FieldLaws}
 use Rattle.field.specs.Symbols.{symbols}
 use Rattle.field.proofs.SymbolLaws.{symbols-field}
 use Rattle.poly.specs.Table.{First}

@@ -1,7 +1,7 @@
 -- Curves as sequences in y: the zero curve's coefficients, and height as a bound on the powers of y.
 use mathlib.Core.Path.{_≡_, ap, _∙_, fun-ext}
 use Prim.Native.Nat.{ℕ}
-use Rattle.field.specs.Ring.{Ring}
+use Rattle.field.specs.Field.{Ring}
 use Rattle.poly.specs.Polynomials.{Seq, Series, zeroS, Below}
 use Rattle.poly.proofs.Series.{zeroS-at}
 use Rattle.rows.specs.Curves.{Curve, Height}

@@ -5,8 +5,7 @@ use mathlib.Core.Logic.{_≢_, _⊎_, inl, inr}
 use Prim.Native.Nat.{ℕ, zero, suc, _+_, _-_, _*_, _≤_, _<_, zero-le}
 use native.Mathlib.Omega.{arith}
 use native.Mathlib.Decide.{decLe, decLt, ℕ-discrete}
-use Rattle.field.specs.Ring.{Ring}
-use Rattle.field.specs.Field.{Field}
+use Rattle.field.specs.Field.{Ring, Field}
 use Rattle.rows.specs.Curves.{Curve, Height, Zero, Under, Lead}
 
 -- a term of weight w and power s of y is smaller than one of weight v and power t

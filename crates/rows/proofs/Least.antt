@@ -5,14 +5,13 @@ use mathlib.Core.List.{List}
 use Prim.Native.Nat.{ℕ, zero, suc, _-_, _*_, _≤_, _<_}
 use native.Mathlib.Omega.{arith}
 use native.Mathlib.Decide.{decLe, decLt}
-use Rattle.field.specs.Ring.{Ring, RingLaws}
-use Rattle.field.specs.Field.{Field, FieldLaws}
+use Rattle.field.specs.Field.{Ring, RingLaws, Field, FieldLaws}
 use Rattle.field.proofs.RingLaws.{add-neg, mul-zero, mul-comm, difference-zero}
 use Rattle.poly.specs.Polynomials.{Series, addS, negS}
 use Rattle.rows.specs.Curves.{AtMost, Curve, Under, Lead, LeadsAt, Span, Smallest}
 use Rattle.rows.specs.Turns.{mono, Outcome}
 use Rattle.rows.specs.Entry.{Sound}
-use Rattle.rows.specs.Runs.{Promised}
+use Rattle.rows.proofs.Promises.{Promised}
 use Rattle.rows.specs.Finish.{Lightest, monic}
 use Rattle.rows.proofs.Leads.{ZeroOrLeads, under-step, lead-unique, lead-smaller}
 use Rattle.rows.proofs.Monomials.{delay-zero, mono-below}

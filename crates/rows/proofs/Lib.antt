@@ -45,3 +45,4 @@ pub mod Ends
 pub mod Moving
 pub mod CrossedRows
 pub mod Vanishing
+pub mod Promises

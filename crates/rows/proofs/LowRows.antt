@@ -9,12 +9,11 @@ use native.Mathlib.Decide.{decLt}
 use native.Mathlib.Omega.{arith}
 use lib.ListN.{length, getD, set, length-set}
 use lib.Seq.{getD-set-same, getD-set-other}
-use Rattle.field.specs.Ring.{Ring, RingLaws, pow}
-use Rattle.field.specs.Symbols.{Element, symbols}
+use Rattle.field.specs.Field.{Ring, RingLaws, pow}
+use Rattle.field.specs.Symbols.{Element, symbols, symbolsOf}
 use Rattle.field.proofs.RingLaws.{mul-one}
 use Rattle.field.proofs.SymbolLaws.{symbols-field, symbol-byte, byte-below, zero-byte}
 use Rattle.poly.specs.Polynomials.{Seq, Series, oneS, mulS, lin}
-use Rattle.poly.specs.Encode.{symbolsOf}
 use Rattle.poly.specs.Buffers.{from, Factors, Kept}
 use Rattle.poly.proofs.Series.{series}
 use Rattle.poly.proofs.Constants.{constS-zero}

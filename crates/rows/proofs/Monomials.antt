@@ -3,7 +3,7 @@ use mathlib.Core.Path.{_≡_, refl, sym, ap, ap₂, _∙_}
 use Prim.Native.Nat.{ℕ, zero, suc, _+_, _*_, _<_}
 use native.Mathlib.Nat.{zero-add as n-zero-add, suc-add, mul-zero as n-mul-zero}
 use native.Mathlib.Omega.{arith}
-use Rattle.field.specs.Ring.{Ring, RingLaws, pow}
+use Rattle.field.specs.Field.{Ring, RingLaws, pow}
 use Rattle.field.proofs.RingLaws.{zero-add, mul-assoc, mul-zero, zero-mul, one-mul, neg-zero}
 use Rattle.field.proofs.Sums.{pow-zero, pow-suc}
 use Rattle.poly.specs.Polynomials.{Seq, negS, mulS, Series, consS, constS, xS, Below}

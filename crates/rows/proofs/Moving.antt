@@ -8,7 +8,7 @@ use native.Mathlib.Nat.{suc-mul}
 use native.Mathlib.Decide.{decLe}
 use native.Mathlib.Omega.{arith}
 use lib.ListN.{length, getD}
-use Rattle.field.specs.Ring.{RingLaws}
+use Rattle.field.specs.Field.{RingLaws}
 use Rattle.field.specs.Symbols.{Listed, symbol, symbols, sumOf, productOf, negativeOf}
 use Rattle.field.specs.Kernels.{subtracted}
 use Rattle.field.proofs.RingLaws.{add-zero, mul-zero, neg-zero}

@@ -4,7 +4,7 @@
 use mathlib.Core.Path.{_≡_, sym, ap, _∙_, fun-ext}
 use Prim.Native.Nat.{ℕ, suc, _+_, _-_, _<_}
 use native.Mathlib.Omega.{arith}
-use Rattle.field.specs.Ring.{Ring, RingLaws, pow, multiple, sum}
+use Rattle.field.specs.Field.{Ring, RingLaws, pow, multiple, sum}
 use Rattle.field.proofs.RingLaws.{add-zero, mul-zero}
 use Rattle.field.proofs.Sums.{sum-cong}
 use Rattle.poly.specs.Polynomials.{Seq, Series, addS, mulS, scaleS, zeroS, constS, Below, binomial}
@@ -14,8 +14,7 @@ use Rattle.poly.proofs.Bounds.{below-add, below-mul, below-same}
 use Rattle.poly.proofs.Shift.{shift, shift-null, shift-add, shift-mul, shift-any, shift-scale}
 use Rattle.poly.proofs.Orders.{Vanish, ord-add, ord-mul}
 use Rattle.poly.proofs.Binomials.{part, shift-binomial}
-use Rattle.rows.specs.Curves.{Curve, Finite, Height, times, Span}
-use Rattle.rows.specs.Multiplicity.{shifted, Multiplicity, Passing}
+use Rattle.rows.specs.Curves.{Curve, Finite, Height, times, Span, shifted, Multiplicity, Passing}
 use Rattle.rows.proofs.Heights.{zero-at, height-below, below-height}
 use Rattle.rows.proofs.Spans.{span-closed}
 use Rattle.rows.proofs.Along.{moved}

@@ -7,7 +7,8 @@ use native.Mathlib.Omega.{arith}
 use Rattle.field.specs.Symbols.{Listed}
 use Rattle.poly.proofs.TableLaws.{listed-passed}
 use Rattle.rows.specs.Bytes.{shape}
-use Rattle.rows.specs.Jobs.{BadHeights, BadNote, size, count, degree, heights, row, shapeOf}
+use Rattle.poly.specs.Table.{BadHeights}
+use Rattle.rows.specs.Jobs.{BadNote, size, count, degree, heights, row, shapeOf}
 use Rattle.rows.specs.Work.{Fine}
 use Rattle.rows.specs.declared.Note.{Note}
 

@@ -5,8 +5,7 @@ use mathlib.Core.Logic.{_⊎_, inl, inr}
 use Prim.Native.Nat.{ℕ, zero, suc, _+_, _-_, _*_, _≤_, _<_}
 use native.Mathlib.Omega.{arith}
 use native.Mathlib.Decide.{decLe}
-use Rattle.field.specs.Ring.{Ring, RingLaws, sum}
-use Rattle.field.specs.Field.{Field, FieldLaws}
+use Rattle.field.specs.Field.{Ring, RingLaws, sum, Field, FieldLaws}
 use Rattle.field.proofs.RingLaws.{add-zero, zero-add, add-comm, mul-zero, zero-mul}
 use Rattle.field.proofs.FieldLaws.{no-zero-divisor}
 use Rattle.field.proofs.Sums.{sum-zero, sum-suc, sum-null}

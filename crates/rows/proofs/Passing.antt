@@ -8,12 +8,11 @@ use native.Mathlib.Omega.{arith}
 use Rattle.field.specs.Field.{Field, FieldLaws}
 use Rattle.poly.specs.Polynomials.{Seq, Distinct, Through, locator}
 use Rattle.poly.proofs.Interpolation.{interpolate}
-use Rattle.rows.specs.Curves.{Curve, Span, Smallest}
-use Rattle.rows.specs.Multiplicity.{Passing}
+use Rattle.rows.specs.Curves.{Curve, Span, Smallest, Passing}
 use Rattle.rows.specs.Start.{startRow, total}
 use Rattle.rows.specs.Turns.{Outcome}
 use Rattle.rows.specs.Entry.{Sound}
-use Rattle.rows.specs.Runs.{allowed, Fresh, Run, Promised}
+use Rattle.rows.proofs.Promises.{allowed, Fresh, Run, Promised}
 use Rattle.rows.specs.Finish.{Lightest, monic}
 use Rattle.rows.proofs.Spans.{span-row, span-trans}
 use Rattle.rows.proofs.Runs.{run-promised, run-begins}

@@ -8,14 +8,14 @@ use native.Mathlib.Decide.{decLt, ℕ-discrete}
 use Rattle.field.specs.Field.{Field, FieldLaws}
 use Rattle.rows.specs.Curves.{Curve, LeadsAt}
 use Rattle.rows.specs.Turns.{Outcome, stops, Turn}
-use Rattle.rows.specs.Entry.{Sound, Kept}
-use Rattle.rows.specs.Runs.{allowed, Fresh, after, Run, none, turn, Promised}
+use Rattle.rows.specs.Entry.{Sound}
+use Rattle.rows.proofs.Promises.{Preserved, allowed, Fresh, after, Run, none, turn, Promised}
 use Rattle.rows.proofs.Spans.{same-refl, same-trans}
 use Rattle.rows.proofs.Turns.{turn-keeps, turn-exists}
 use Rattle.rows.proofs.Count.{cost, Good, good-begins, Spent, spent-map, Served, turn-serves}
 
 module _ {F : Field} (Φ : FieldLaws F) {u W l : ℕ} where
-  pub run-keeps : {r : ℕ} {list : List ℕ} {rows : ℕ → Curve (F .ring)} {o : Outcome F} → r ≤ suc l → Sound (F .ring) u W l r rows → Run F u l list rows r o → Kept F u W l rows o
+  pub run-keeps : {r : ℕ} {list : List ℕ} {rows : ℕ → Curve (F .ring)} {o : Outcome F} → r ≤ suc l → Sound (F .ring) u W l r rows → Run F u l list rows r o → Preserved F u W l rows o
   run-keeps h g (none {rows = rows}) = record { inside = h; sound = g; same = same-refl (F .ring) (suc l) rows }
   run-keeps h g (turn {rows = rows} {o = o} {p = p} t more) =
       let k = turn-keeps Φ h g t in

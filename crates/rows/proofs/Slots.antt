@@ -8,8 +8,8 @@ use native.Mathlib.Numerals.{add-one}
 use native.Mathlib.Decide.{ℕ-discrete}
 use native.Mathlib.Omega.{arith}
 use lib.ListN.{length, getD}
-use Rattle.field.specs.Ring.{Ring, RingLaws, pow}
-use Rattle.field.specs.Symbols.{Listed, Element, symbol, symbols, sumOf, productOf, negativeOf}
+use Rattle.field.specs.Field.{Ring, RingLaws, pow}
+use Rattle.field.specs.Symbols.{Listed, Element, symbol, symbols, sumOf, productOf, negativeOf, symbolsOf}
 use Rattle.field.specs.Operations.{negByte}
 use Rattle.field.specs.Kernels.{Region, Subtracts, Scales, subtracted, scaled}
 use Rattle.field.proofs.RingLaws.{mul-assoc, one-mul, neg-mul, neg-neg}
@@ -18,7 +18,6 @@ use Rattle.field.proofs.SymbolLaws.{symbols-field, symbol-byte, byte-is}
 use Rattle.field.proofs.OperationLaws.{symbol-negByte, negByte-below}
 use Rattle.field.proofs.KernelLaws.{length-subtracted, subtracted-outside, subtracted-below, subtracted-symbol, length-scaled, scaled-outside, scaled-below, scaled-symbol}
 use Rattle.poly.specs.Polynomials.{Seq, Series, mulS}
-use Rattle.poly.specs.Encode.{symbolsOf}
 use Rattle.poly.specs.Buffers.{from, Factors, productFrom, Kept, Product}
 use Rattle.poly.proofs.Series.{series}
 use Rattle.poly.proofs.Products.{product-low}

@@ -7,7 +7,7 @@ use native.Mathlib.Decide.{decLe}
 use native.Mathlib.Omega.{arith}
 use lib.ListN.{length, getD, take}
 use lib.Seq.{getD-take, length-take-le}
-use Rattle.field.specs.Ring.{Ring}
+use Rattle.field.specs.Field.{Ring}
 use Rattle.field.specs.Symbols.{symbols}
 use Rattle.poly.specs.Table.{TooLarge}
 use Rattle.poly.proofs.TableLaws.{below-passed}

@@ -5,7 +5,7 @@ use mathlib.Core.List.{[], _∷_}
 use Prim.Native.Nat.{ℕ, zero, suc, _+_, _<_}
 use native.Mathlib.Omega.{arith}
 use native.Mathlib.Decide.{ℕ-discrete}
-use Rattle.field.specs.Ring.{Ring, RingLaws, sum}
+use Rattle.field.specs.Field.{Ring, RingLaws, sum}
 use Rattle.field.proofs.RingLaws.{mul-zero, zero-mul, one-mul, mul-assoc, mul-add, add-mul}
 use Rattle.field.proofs.RingTactic.{ring}
 use Rattle.field.proofs.Sums.{sum-zero, sum-suc, sum-cong, sum-null, sum-add, sum-single}

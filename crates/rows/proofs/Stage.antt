@@ -5,14 +5,13 @@ use mathlib.Core.Logic.{_≢_, inl, inr}
 use Prim.Native.Nat.{ℕ, suc, _+_, _-_, _*_, _≤_, _<_, max}
 use native.Mathlib.Omega.{arith}
 use native.Mathlib.Decide.{decLt, ℕ-discrete}
-use Rattle.field.specs.Ring.{Ring, RingLaws}
-use Rattle.field.specs.Field.{Field, FieldLaws}
+use Rattle.field.specs.Field.{Ring, RingLaws, Field, FieldLaws}
 use Rattle.field.proofs.RingLaws.{add-zero, mul-zero, neg-zero}
 use Rattle.poly.specs.Polynomials.{Below}
 use Rattle.rows.specs.Curves.{Curve, Lead}
 use Rattle.rows.specs.Turns.{Due, ratio, update}
 use Rattle.rows.specs.Entry.{Sound}
-use Rattle.rows.specs.Runs.{Fresh}
+use Rattle.rows.proofs.Promises.{Fresh}
 use Rattle.rows.proofs.Leads.{Smaller, ZeroOrLeads, under-smaller, lead-unique, lead?}
 use Rattle.rows.proofs.Monomials.{delay, delay-at, delay-null}
 use Rattle.rows.proofs.Crossing.{cross-at}

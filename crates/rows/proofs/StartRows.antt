@@ -6,19 +6,17 @@ use Prim.Native.Nat.{ℕ, zero, suc, _+_, _-_, _*_, _≤_, _<_, min}
 use native.Mathlib.Omega.{arith}
 use native.Mathlib.Decide.{decLe}
 use native.Mathlib.Nat.{sub-zero, mul-le-mul-left, mul-le-mul-right}
-use Rattle.field.specs.Ring.{Ring, RingLaws, pow}
-use Rattle.field.specs.Field.{Field, FieldLaws}
+use Rattle.field.specs.Field.{Ring, RingLaws, pow, Field, FieldLaws}
 use Rattle.field.proofs.RingLaws.{mul-one}
 use Rattle.field.proofs.Sums.{pow-zero}
 use Rattle.poly.specs.Polynomials.{Seq, Series, constS, xS, lin, Below, Through, locator, Distinct}
 use Rattle.poly.proofs.Series.{series}
 use Rattle.poly.proofs.Degrees.{Monic, monic-same, monic-pow, monic-locator}
 use Rattle.poly.proofs.Interpolation.{interpolate}
-use Rattle.rows.specs.Curves.{Curve, Zero, Under, Lead, Smallest}
-use Rattle.rows.specs.Multiplicity.{Passing}
+use Rattle.rows.specs.Curves.{Curve, Zero, Under, Lead, Smallest, Passing}
 use Rattle.rows.specs.Start.{startRow}
 use Rattle.rows.specs.Entry.{Sound}
-use Rattle.rows.specs.Runs.{Fresh}
+use Rattle.rows.proofs.Promises.{Fresh}
 use Rattle.rows.proofs.Spans.{span-row}
 use Rattle.rows.proofs.Weights.{row, row-top, row-height, row-light}
 use Rattle.rows.proofs.Generated.{start-passes}

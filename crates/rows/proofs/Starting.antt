@@ -5,11 +5,10 @@ use Prim.Native.Nat.{ℕ, _<_}
 use native.Mathlib.Decide.{ℕ-discrete}
 use native.Mathlib.Omega.{arith}
 use lib.ListN.{length, getD}
-use Rattle.field.specs.Ring.{Ring}
-use Rattle.field.specs.Symbols.{symbols}
+use Rattle.field.specs.Field.{Ring}
+use Rattle.field.specs.Symbols.{symbols, symbolsOf}
 use Rattle.field.proofs.SymbolLaws.{symbols-field}
 use Rattle.poly.specs.Polynomials.{Seq, locator, Through}
-use Rattle.poly.specs.Encode.{symbolsOf}
 use Rattle.poly.specs.Buffers.{Interpolated}
 use Rattle.poly.proofs.TableLaws.{first-determined}
 use Rattle.poly.proofs.Interpolation.{interpolate}

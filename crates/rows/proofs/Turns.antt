@@ -4,11 +4,11 @@ use mathlib.Core.Logic.{_⊎_, inl, inr}
 use Prim.Native.Nat.{ℕ, zero, suc, _+_, _-_, _≤_, _<_}
 use native.Mathlib.Omega.{arith}
 use native.Mathlib.Decide.{ℕ-discrete}
-use Rattle.field.specs.Ring.{Ring}
-use Rattle.field.specs.Field.{Field, FieldLaws}
+use Rattle.field.specs.Field.{Ring, Field, FieldLaws}
 use Rattle.rows.specs.Curves.{Curve, Zero, Lead}
 use Rattle.rows.specs.Turns.{Due, update, Outcome, stops, counted, Turn, finished, rises, pauses, updates, halts}
-use Rattle.rows.specs.Entry.{Sound, Kept}
+use Rattle.rows.specs.Entry.{Sound}
+use Rattle.rows.proofs.Promises.{Preserved}
 use Rattle.rows.proofs.Leads.{ZeroOrLeads, lead-unique, lead-nonzero, lead-within, lead?}
 use Rattle.rows.proofs.Spans.{same-refl, same-trans}
 use Rattle.rows.proofs.Updates.{update-led, update-same}
@@ -44,10 +44,10 @@ module _ {F : Field} {u l : ℕ} where
   turn-determined (halts w s v d n) (halts x y z e m) = refl
 
 module _ {F : Field} (Φ : FieldLaws F) {u W l : ℕ} where
-  kept-still : (number : ℕ) {rows : ℕ → Curve (F .ring)} {r : ℕ} → r ≤ suc l → Sound (F .ring) u W l r rows → Kept F u W l rows (stops F number rows r)
+  kept-still : (number : ℕ) {rows : ℕ → Curve (F .ring)} {r : ℕ} → r ≤ suc l → Sound (F .ring) u W l r rows → Preserved F u W l rows (stops F number rows r)
   kept-still number {rows = rows} h g = record { inside = h; sound = g; same = same-refl (F .ring) (suc l) rows }
 
-  pub turn-keeps : {a : ℕ} {rows : ℕ → Curve (F .ring)} {r : ℕ} {o : Outcome F} → r ≤ suc l → Sound (F .ring) u W l r rows → Turn F u l a rows r o → Kept F u W l rows o
+  pub turn-keeps : {a : ℕ} {rows : ℕ → Curve (F .ring)} {r : ℕ} {o : Outcome F} → r ≤ suc l → Sound (F .ring) u W l r rows → Turn F u l a rows r o → Preserved F u W l rows o
   turn-keeps h g (finished k) = kept-still 0 h g
   turn-keeps h g (rises w k x t) = turn-keeps (omega arith) (sound-rises g (w, x)) t
   turn-keeps h g (pauses w s k x n) = kept-still 0 h g

@@ -4,8 +4,7 @@ use mathlib.Core.Logic.{_≢_, _⊎_, inl, inr}
 use Prim.Native.Nat.{ℕ, zero, suc, _+_, _-_, _*_, _≤_, _<_, max, min}
 use native.Mathlib.Omega.{arith}
 use native.Mathlib.Decide.{decLe, ℕ-discrete}
-use Rattle.field.specs.Ring.{Ring, RingLaws}
-use Rattle.field.specs.Field.{Field, FieldLaws}
+use Rattle.field.specs.Field.{Ring, RingLaws, Field, FieldLaws}
 use Rattle.field.proofs.RingLaws.{zero-mul, mul-assoc, mul-comm, mul-one}
 use Rattle.rows.specs.Curves.{Curve, Height, Under, Lead, Span, Same}
 use Rattle.rows.specs.Turns.{choose, put, cross, Due, ratio, update}

@@ -9,8 +9,7 @@ use native.Mathlib.Omega.{arith}
 use lib.Dec.{leb}
 use lib.ListN.{getD}
 use borrow.Author.Tests.{le-leb, lt-leb}
-use Rattle.field.specs.Ring.{Ring}
-use Rattle.field.specs.Field.{Field, FieldLaws}
+use Rattle.field.specs.Field.{Ring, Field, FieldLaws}
 use Rattle.field.specs.Symbols.{Listed, Element, symbol, same-byte, symbols}
 use Rattle.field.specs.Operations.{minusBytes, timesBytes}
 use Rattle.field.specs.Kernels.{Region}

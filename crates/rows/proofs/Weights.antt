@@ -3,7 +3,7 @@ use mathlib.Core.Path.{_≡_, refl, ap, ap₂, _∙_}
 use Prim.Native.Nat.{ℕ, zero, suc, _+_, _-_, _*_, _≤_, _<_, min}
 use native.Mathlib.Omega.{arith}
 use native.Mathlib.Decide.{decLe}
-use Rattle.field.specs.Ring.{Ring, RingLaws, pow}
+use Rattle.field.specs.Field.{Ring, RingLaws, pow}
 use Rattle.field.proofs.RingLaws.{add-zero, zero-mul, mul-zero, mul-one, mul-assoc, neg-zero}
 use Rattle.field.proofs.Sums.{pow-zero, pow-suc, sum-null}
 use Rattle.poly.specs.Polynomials.{Seq, Series, tail, mulS, negS, zeroS, oneS, consS, constS, xS, lin, Below}

@@ -5,8 +5,7 @@ use Prim.Native.Nat.{ℕ, suc, _+_, _-_, _*_, _≤_, _<_, min}
 use native.Mathlib.Nat.{sub-self, mul-le-mul-left}
 use native.Mathlib.Omega.{arith}
 use native.Mathlib.Decide.{decLe, ℕ-discrete}
-use Rattle.field.specs.Ring.{Ring, RingLaws, pow}
-use Rattle.field.specs.Field.{Field, FieldLaws}
+use Rattle.field.specs.Field.{Ring, RingLaws, pow, Field, FieldLaws}
 use Rattle.field.proofs.RingLaws.{mul-one, one-mul, neg-zero}
 use Rattle.field.proofs.Sums.{pow-zero, prod-pow}
 use Rattle.poly.specs.Polynomials.{Seq, Series, zeroS, oneS, xS, lin, Distinct, Through, locator}
@@ -17,8 +16,7 @@ use Rattle.poly.proofs.Evaluation.{value-null}
 use Rattle.poly.proofs.Shift.{shift-none}
 use Rattle.poly.proofs.Degrees.{sumBelow, degree, monic-pow, monic-locator}
 use Rattle.poly.proofs.Places.{Divides, distinct-apart, divides-degree}
-use Rattle.rows.specs.Curves.{Curve, Lead, AtMost, Smallest}
-use Rattle.rows.specs.Multiplicity.{Passing}
+use Rattle.rows.specs.Curves.{Curve, Lead, AtMost, Smallest, Passing}
 use Rattle.rows.specs.Start.{startRow}
 use Rattle.rows.proofs.Spans.{span-row}
 use Rattle.rows.proofs.Heights.{height-below}

@@ -11,11 +11,16 @@
 --   Span n rows Q    Q is a sum of the first n rows, each times a polynomial in x
 --   Same n rows new  the first n rows span the same curves as the first n new ones
 --   Smallest         of the curves of a set, the monic nonzero one with the smallest leading term
+-- Multiplicity at a point is by the coefficients of Q (x + a, y + b), with their binomials.
+--   shifted M N a b Q i j     the coefficient of x^i y^j in Q (x + a, y + b), Q having fewer than M powers of x and N of y
+--   Multiplicity m M N a b Q  every such coefficient with i + j < m is zero
+--   Passing n m l a v Q       Q is zero or one of the curves of demand 2: height at most l, and at each of the n received points
+--                             (a_s, v_s) multiplicity at least m
 use mathlib.Core.Path.{_≡_}
 use mathlib.Core.Logic.{_≢_, _↔_}
-use Prim.Native.Nat.{ℕ, suc, _+_, _*_, _≤_}
-use Rattle.field.specs.Ring.{Ring, sum}
-use Rattle.poly.specs.Polynomials.{Seq, Series, scaleS, Below}
+use Prim.Native.Nat.{ℕ, suc, _+_, _-_, _*_, _≤_, _<_}
+use Rattle.field.specs.Field.{Ring, pow, multiple, sum}
+use Rattle.poly.specs.Polynomials.{Seq, Series, scaleS, Below, binomial}
 
 -- terms go by weight first; of two that weigh the same the larger power of y is the larger term
 abbrev pub AtMost : ℕ → ℕ → ℕ → ℕ → Type 0
@@ -64,3 +69,15 @@ module _ (R : Ring) where
     pub lead : Lead u weight power Q
     pub monic : Q power (lead .degree) ≡ R .𝟙
     pub least : (P : Curve) → Member P → (v t : ℕ) → Lead u v t P → AtMost weight power v t
+
+  unfoldable pub shifted : ℕ → ℕ → R .Car → R .Car → Curve → ℕ → ℕ → R .Car
+  shifted M N a b Q i j =
+      sum R N (λ s. multiple R (binomial s j) (R .times (pow R b (s - j)) (sum R M (λ r. multiple R (binomial r i) (R .times (pow R a (r - i)) (Q s r))))))
+
+  abbrev pub Multiplicity : ℕ → ℕ → ℕ → R .Car → R .Car → Curve → Type 0
+  Multiplicity m M N a b Q = (i j : ℕ) → i + j < m → shifted M N a b Q i j ≡ R .𝟘
+
+  pub record Passing (n m l : ℕ) (a v : ℕ → R .Car) (Q : Curve) : Type 0 where
+    pub finite : Finite Q
+    pub height : Height (suc l) Q
+    pub multiplicity : (s : ℕ) → s < n → Multiplicity m (finite .0) (suc l) (a s) (v s) Q

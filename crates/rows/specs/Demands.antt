@@ -12,11 +12,9 @@ use mathlib.Core.Logic.{_↔_}
 use mathlib.Core.List.{List}
 use Prim.Native.Nat.{ℕ, suc, _+_, _-_, _≤_, _<_}
 use lib.ListN.{length}
-use Rattle.field.specs.Ring.{Ring}
-use Rattle.field.specs.Symbols.{symbols}
-use Rattle.poly.specs.Encode.{symbolsOf}
-use Rattle.rows.specs.Curves.{Curve, LeadsAt, Span, Smallest}
-use Rattle.rows.specs.Multiplicity.{Passing}
+use Rattle.field.specs.Field.{Ring}
+use Rattle.field.specs.Symbols.{symbols, symbolsOf}
+use Rattle.rows.specs.Curves.{Curve, LeadsAt, Span, Smallest, Passing}
 use Rattle.rows.specs.Start.{formula}
 use Rattle.rows.specs.Bytes.{shape, curveBytes, rowsOf, HoldsCurve}
 use Rattle.rows.specs.Jobs.{HasStarted, HasTurned, HasHeight, HasFinished}

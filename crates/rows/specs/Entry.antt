@@ -1,12 +1,9 @@
 -- Rows as a turn leaves them: what is asked of them at entry, and what number 11 denies.
 --   Sound u W l r rows   of the rows 0 to l, with r the current one: no coefficient of weight above W, no row zero, row i up to r of
 --                        height at most r, row i above r of height at most i, and row i below r leading at y^i
---   Kept u W l rows o    the outcome o of work on these rows is again as a turn leaves rows, and spans the same curves
 use Prim.Native.Nat.{ℕ, zero, suc, _≤_, _<_}
-use Rattle.field.specs.Ring.{Ring}
-use Rattle.field.specs.Field.{Field}
-use Rattle.rows.specs.Curves.{Curve, Height, Zero, Under, LeadsAt, Same}
-use Rattle.rows.specs.Turns.{Outcome}
+use Rattle.field.specs.Field.{Ring}
+use Rattle.rows.specs.Curves.{Curve, Height, Zero, Under, LeadsAt}
 
 module _ (R : Ring) where
   pub record Sound (u W l r : ℕ) (rows : ℕ → Curve R) : Type 0 where
@@ -15,9 +12,3 @@ module _ (R : Ring) where
     pub low : (i : ℕ) → i ≤ l → i ≤ r → Height R (suc r) (rows i)
     pub high : (i : ℕ) → i ≤ l → r < i → Height R (suc i) (rows i)
     pub own : (i : ℕ) → i ≤ l → i < r → LeadsAt R u i (rows i)
-
-module _ (F : Field) where
-  pub record Kept (u W l : ℕ) (rows : ℕ → Curve (F .ring)) (o : Outcome F) : Type 0 where
-    pub inside : o .row ≤ suc l
-    pub sound : Sound (F .ring) u W l (o .row) (o .rows)
-    pub same : Same (F .ring) (suc l) rows (o .rows)

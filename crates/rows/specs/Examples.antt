@@ -4,11 +4,10 @@
 use mathlib.Core.Path.{_≡_, refl, ap}
 use Prim.Native.Nat.{ℕ, zero, suc, _*_}
 use native.Mathlib.Omega.{arith}
-use Rattle.field.specs.Ring.{Ring, pow, multiple, sum}
+use Rattle.field.specs.Field.{Ring, pow, multiple, sum}
 use Rattle.field.specs.Symbols.{Element, symbol, symbols, same-byte, sumOf, productOf}
 use Rattle.poly.specs.Polynomials.{Series, zeroS, consS, constS, binomial}
-use Rattle.rows.specs.Curves.{Curve}
-use Rattle.rows.specs.Multiplicity.{shifted, Multiplicity}
+use Rattle.rows.specs.Curves.{Curve, shifted, Multiplicity}
 use Rattle.rows.specs.Start.{total, formula}
 use Rattle.rows.specs.Turns.{mono}
 

@@ -13,11 +13,10 @@ use mathlib.Core.List.{List}
 use Prim.Native.Nat.{ℕ, _+_, _-_, _*_, _≤_, _<_}
 use lib.ListN.{length, getD, take, drop}
 use lib.Seq.{sets}
-use Rattle.field.specs.Ring.{pow}
+use Rattle.field.specs.Field.{pow}
 use Rattle.field.specs.Lists.{tabulate}
-use Rattle.field.specs.Symbols.{symbols}
+use Rattle.field.specs.Symbols.{symbols, symbolsOf}
 use Rattle.poly.specs.Polynomials.{Series, mulS, lin}
-use Rattle.poly.specs.Encode.{symbolsOf}
 use Rattle.poly.specs.Buffers.{AllBelow, from, Kept}
 use Rattle.rows.specs.Curves.{Curve}
 use Rattle.rows.specs.Start.{startRow}

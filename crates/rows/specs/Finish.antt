@@ -2,8 +2,7 @@
 --   Lightest u l rows i w   of the rows 0 to l, each leading at its own power of y, row i leads with the smallest term, of weight w
 --   monic u w s Q           Q, which leads at y^s with weight w, times the inverse of its leading coefficient
 use Prim.Native.Nat.{ℕ, _-_, _*_, _≤_}
-use Rattle.field.specs.Ring.{Ring}
-use Rattle.field.specs.Field.{Field}
+use Rattle.field.specs.Field.{Ring, Field}
 use Rattle.rows.specs.Curves.{AtMost, Curve, Lead, times}
 use Rattle.rows.specs.Turns.{mono}
 

@@ -1,5 +1,4 @@
 -- The jobs start, turn and finish: when each refuses, and what it leaves. A refusal leaves every byte as it was.
---   BadHeights m l         5: m or l out of its range
 --   BadNote note           10: 1, 2, 4 or 5 would apply to the note, or r is outside 1 to l + 1
 --   AsLeft S r xs          the rows are as a turn leaves them; 11 if they are not
 --   HasStarted, HasTurned, HasFinished   what the job hands back and leaves in the lent bytes
@@ -8,11 +7,10 @@ use mathlib.Core.Logic.{_⊎_}
 use mathlib.Core.List.{List, [], _∷_}
 use Prim.Native.Nat.{ℕ, zero, suc, _+_, _-_, _*_, _≤_, _<_}
 use lib.ListN.{length, getD, take}
-use Rattle.field.specs.Ring.{Ring}
-use Rattle.field.specs.Symbols.{Listed, Element, symbol, symbols}
+use Rattle.field.specs.Field.{Ring}
+use Rattle.field.specs.Symbols.{Listed, Element, symbol, symbols, symbolsOf}
 use Rattle.poly.specs.Polynomials.{Seq, locator, Through}
-use Rattle.poly.specs.Table.{Refusal, First, NotListed, BadCount, BadDegree, TooLarge, Repeated, TooShort}
-use Rattle.poly.specs.Encode.{symbolsOf}
+use Rattle.poly.specs.Table.{Refusal, First, NotListed, BadCount, BadDegree, BadHeights, TooLarge, Repeated, TooShort}
 use Rattle.rows.specs.Curves.{Curve, Height}
 use Rattle.rows.specs.Start.{startRow}
 use Rattle.rows.specs.Turns.{Outcome, Turn}
@@ -25,9 +23,6 @@ use Rattle.rows.specs.declared.Started.{Started}
 use Rattle.rows.specs.declared.Turned.{Turned}
 use Rattle.rows.specs.declared.Made.{Made}
 use Rattle.rows.specs.declared.Finished.{Finished}
-
-abbrev pub BadHeights : ℕ → ℕ → Type 0
-BadHeights m l = (m < 1) ⊎ ((4 < m) ⊎ ((l < m) ⊎ (8 < l)))
 
 pub data BadNote (note : Note) : Type 0 where
   size : NotListed (note .p) → BadNote note

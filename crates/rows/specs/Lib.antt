@@ -1,5 +1,4 @@
 pub mod Curves
-pub mod Multiplicity
 pub mod Start
 pub mod Turns
 pub mod Entry
@@ -8,6 +7,5 @@ pub mod Jobs
 pub mod Work
 pub mod Finish
 pub mod Demands
-pub mod Runs
 pub mod Examples
 pub mod Filling

@@ -2,7 +2,7 @@
 --   startRow m e h i    e^(m-i) (y-h)^i for i up to m, y^(i-m) (y-h)^m above (corollary 14)
 --   formula n k m l     (n-k) times the sum of r r for r = 1 to m, plus (n-k) m times the sum of r for r = m+1 to l
 use Prim.Native.Nat.{ℕ, zero, suc, _+_, _-_, _*_, min}
-use Rattle.field.specs.Ring.{Ring, pow}
+use Rattle.field.specs.Field.{Ring, pow}
 use Rattle.poly.specs.Polynomials.{Seq, Series, constS, xS, lin}
 use Rattle.rows.specs.Curves.{Curve}
 

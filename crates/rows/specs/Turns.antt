@@ -11,8 +11,7 @@
 use mathlib.Core.Logic.{_≢_}
 use Prim.Native.Nat.{ℕ, zero, suc, _-_, _*_, _≤_, _<_}
 use native.Mathlib.Decide.{decLe, ℕ-discrete}
-use Rattle.field.specs.Ring.{Ring}
-use Rattle.field.specs.Field.{Field}
+use Rattle.field.specs.Field.{Ring, Field}
 use Rattle.poly.specs.Polynomials.{Seq, Series, addS, constS, consS}
 use Rattle.rows.specs.Curves.{Curve, Zero, Lead, times}
 

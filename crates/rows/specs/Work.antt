@@ -19,7 +19,7 @@ use Prim.Native.Nat.{ℕ, zero, suc, _+_, _-_, _*_, _≤_, _<_, max}
 use lib.Dec.{leb}
 use lib.ListN.{length, getD, take}
 use lib.Seq.{sets}
-use Rattle.field.specs.Ring.{Ring}
+use Rattle.field.specs.Field.{Ring}
 use Rattle.field.specs.Lists.{tabulate}
 use Rattle.field.specs.Symbols.{Listed, Element, symbols}
 use Rattle.field.specs.Operations.{minusBytes, timesBytes}

@@ -2,9 +2,9 @@
 ghost use mathlib.Core.Path.{_≡_};
 ghost use Prim.Native.Nat.{ℕ, _+_, _-_, _*_, _<_, _≤_};
 ghost use lib.ListN.{length};
-ghost use Rattle.poly.specs.Table.{First};
+ghost use Rattle.poly.specs.Table.{First, BadHeights};
 ghost use Rattle.poly.specs.Buffers.{Decided};
-ghost use Rattle.rows.specs.Jobs.{HasStarted, HasTurned, HasFinished, startTable, turnTable, finishTable, BadHeights, BadNote, atRow, withNote};
+ghost use Rattle.rows.specs.Jobs.{HasStarted, HasTurned, HasFinished, startTable, turnTable, finishTable, BadNote, atRow, withNote};
 ghost use Rattle.rows.specs.Work.{requestTable, Ready, Went};
 use field::Symbol;
 

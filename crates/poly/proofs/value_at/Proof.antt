@@ -5,7 +5,7 @@ use lib.ListN.{length}
 use borrow.Author.Needs.{needs}
 use Rattle.field.proofs.SymbolLaws.{byte-below}
 use Rattle.field.proofs.OperationLaws.{timesBytes-below}
-use Rattle.poly.specs.Encode.{symbolsOf}
+use Rattle.field.specs.Symbols.{symbolsOf}
 use Rattle.poly.proofs.BufferLaws.{horner, horner-none, horner-more, horner-all}
 use Rattle.poly.proofs.value_at.Statement.{statement}
 use Rattle.poly.proofs.value_at.Tie as tie

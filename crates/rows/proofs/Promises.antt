@@ -1,4 +1,5 @@
--- Turns one after the other, and what is promised of them when they begin at fresh rows (demand 3).
+-- Turns one after the other, and what is promised of them, over any field, when they begin at fresh rows.
+--   Preserved u W l rows o   the outcome o of work on these rows is again as a turn leaves rows, and spans the same curves
 --   allowed list        the allowances of a list, added up
 --   after o p           what two turns leave, o and then p: the updates are added up, and the number is 0 only if both are
 --   Run u l list rows r o   turns with the allowances of the list, each on the rows and with the current row that the last one left, end in o
@@ -11,13 +12,12 @@ use mathlib.Core.Logic.{_≢_}
 use mathlib.Core.List.{List, [], _∷_}
 use Prim.Native.Nat.{ℕ, zero, suc, _+_, _*_, _≤_, _<_}
 use lib.ListN.{length}
-use Rattle.field.specs.Ring.{Ring}
-use Rattle.field.specs.Field.{Field}
+use Rattle.field.specs.Field.{Ring, Field}
 use Rattle.poly.specs.Polynomials.{Below}
-use Rattle.rows.specs.Curves.{Curve, Height, Under}
+use Rattle.rows.specs.Curves.{Curve, Height, Under, Same}
 use Rattle.rows.specs.Start.{total}
 use Rattle.rows.specs.Turns.{Outcome, stops, Turn}
-use Rattle.rows.specs.Entry.{Kept}
+use Rattle.rows.specs.Entry.{Sound}
 
 unfoldable pub allowed : List ℕ → ℕ
 allowed [] = 0
@@ -33,6 +33,11 @@ module _ (R : Ring) where
     pub within : Under R u (suc W) zero Q
 
 module _ (F : Field) where
+  pub record Preserved (u W l : ℕ) (rows : ℕ → Curve (F .ring)) (o : Outcome F) : Type 0 where
+    pub inside : o .row ≤ suc l
+    pub sound : Sound (F .ring) u W l (o .row) (o .rows)
+    pub same : Same (F .ring) (suc l) rows (o .rows)
+
   abbrev pub after : Outcome F → Outcome F → Outcome F
   after o p = record { number = o .number + p .number; rows = p .rows; row = p .row; updates = o .updates + p .updates }
 
@@ -42,6 +47,6 @@ module _ (F : Field) where
 
   pub record Promised (u W l : ℕ) (b : ℕ → ℕ) (start : ℕ → Curve (F .ring)) (list : List ℕ) (o : Outcome F) : Type 0 where
     pub number : o .number ≡ 0
-    pub kept : Kept F u W l start o
+    pub kept : Preserved u W l start o
     pub count : o .updates ≤ total l (λ r. r * b r)
     pub finished : 0 < length list → total l (λ r. r * b r) ≤ allowed list → o .row ≡ suc l
