@@ -49,14 +49,14 @@ same-byte p {a} {b} e =
     ap (λ (u : (n : ℕ) × (n % p ≡ n)). record { byte = u .0; own = u .1 })
     (Σ-prop-path (λ n. hedberg ℕ-discrete (n % p) n) {u = (a .byte, a .own)} {v = (b .byte, b .own)} e)
 
-abbrev pub choose : Bool → ℕ → ℕ → ℕ
-choose true a b = a
-choose false a b = b
+abbrev pub select : Bool → ℕ → ℕ → ℕ
+select true a b = a
+select false a b = b
 
 -- the largest number below n that passes the test, or 0
 abbrev pub find : ℕ → (ℕ → Bool) → ℕ
 find zero t = 0
-find (suc n) t = let r = find n t in choose (t n) n r
+find (suc n) t = let r = find n t in select (t n) n r
 
 -- the number below p whose product with a leaves 1, or 0
 abbrev pub inverseNumber : ℕ → ℕ → ℕ

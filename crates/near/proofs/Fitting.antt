@@ -17,7 +17,7 @@ use Rattle.rows.proofs.Heights.{zero-at, height-below, below-height}
 use Rattle.rows.proofs.Leads.{under-mono, lead-nonzero}
 use Rattle.near.specs.Search.{Fits, slice, least, some?, lowest}
 use Rattle.near.proofs.Weights.{under-shift}
-use Rattle.near.proofs.Steps.{slice-at, slice-beyond, line-slice, root-symbol}
+use Rattle.near.proofs.Steps.{slice-at, slice-beyond, prefixed-slice, root-symbol}
 use Rattle.near.proofs.Tests.{some-none, some-one}
 
 -- all before the least fail, and the least passes
@@ -127,12 +127,12 @@ module _ {F : Field} (Φ : FieldLaws F) (N W : ℕ) where
     slice-fits c z =
         record {
           power = lowest F N W i T;
-          divides = λ j e l. line-slice L N g i Q j e ∙ begins .none e j l;
-          highest = λ n. begins .some (λ j. sym (line-slice L N g i Q j (lowest F N W i T)) ∙ n j);
-          root = ap (value R c N) (fun-ext (λ j. line-slice L N g i Q j (lowest F N W i T))) ∙ z;
+          divides = λ j e l. prefixed-slice L N g i Q j e ∙ begins .none e j l;
+          highest = λ n. begins .some (λ j. sym (prefixed-slice L N g i Q j (lowest F N W i T)) ∙ n j);
+          root = ap (value R c N) (fun-ext (λ j. prefixed-slice L N g i Q j (lowest F N W i T))) ∙ z;
         }
 
     pub fits-slice : (c : R .Car) → Fits R N g i Q c → value R c N (slice R i (lowest F N W i T) T) ≡ R .𝟘
     fits-slice c h =
-        let b : Begins R i (h .power) T = record { none = λ e j l. sym (line-slice L N g i Q j e) ∙ h .divides j e l; some = λ n. h .highest (λ j. line-slice L N g i Q j (h .power) ∙ n j) } in
-        ap (λ v. value R c N (slice R i v T)) (begins-unique R begins b) ∙ ap (value R c N) (fun-ext (λ j. sym (line-slice L N g i Q j (h .power)))) ∙ h .root
+        let b : Begins R i (h .power) T = record { none = λ e j l. sym (prefixed-slice L N g i Q j e) ∙ h .divides j e l; some = λ n. h .highest (λ j. prefixed-slice L N g i Q j (h .power) ∙ n j) } in
+        ap (λ v. value R c N (slice R i v T)) (begins-unique R begins b) ∙ ap (value R c N) (fun-ext (λ j. sym (prefixed-slice L N g i Q j (h .power)))) ∙ h .root

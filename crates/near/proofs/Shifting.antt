@@ -22,7 +22,7 @@ use Rattle.rows.specs.Bytes.{slot, curveBytes, Untouched}
 use Rattle.rows.proofs.Heights.{height-below}
 use Rattle.rows.proofs.Places.{block-end, slot-end, curve-small, in-curve}
 use Rattle.rows.proofs.Regions.{untouched-none, untouched-then, untouched-unique}
-use Rattle.near.specs.Work.{shapeOf, curveOf, Laid, Tries, Raised, Shifted}
+use Rattle.near.specs.Work.{planShape, curveOf, Laid, Tries, Lifted, Shifted}
 use Rattle.near.specs.declared.search.Plan.{Plan}
 use Rattle.near.proofs.Passes.{pass, passes, pass-before, pass-top, pass-symbol, pass-symbol-low, chosen-passes, chosen-back}
 use Rattle.near.proofs.Laying.{curve-at, curve-high, curve-wide, curve-byte, laws}
@@ -33,7 +33,7 @@ module _ {plan : Plan} {i c : ℕ} {xs : List ℕ} (tries : Tries plan i c xs) {
   laid = tries .laid
 
   abbrev s : ℕ
-  s = slot (shapeOf plan)
+  s = slot (planShape plan)
 
   abbrev p : ℕ
   p = plan .p
@@ -55,8 +55,8 @@ module _ {plan : Plan} {i c : ℕ} {xs : List ℕ} (tries : Tries plan i c xs) {
   pub above : suc q * s ≡ q * s + s
   above = suc-mul q s
 
-  top : suc q * s + s ≤ curveBytes (shapeOf plan)
-  top = slot-end (shapeOf plan) (omega arith)
+  top : suc q * s + s ≤ curveBytes (planShape plan)
+  top = slot-end (planShape plan) (omega arith)
 
   -- all these numbers can be counted
   pub take-small : suc q * s + s ≤ 2169
@@ -124,7 +124,7 @@ module _ {plan : Plan} {i c : ℕ} {xs : List ℕ} (tries : Tries plan i c xs) {
       go (yes g) (no k) = curve-wide plan ys a (omega arith) ∙ sym (curve-wide plan xs a (omega arith))
       go (no g) d = curve-high plan ys e (omega arith) ∙ sym (curve-high plan xs e (omega arith))
 
-  byte-small : (r : ℕ) → r < curveBytes (shapeOf plan) → getD ys r 0 < p
+  byte-small : (r : ℕ) → r < curveBytes (planShape plan) → getD ys r 0 < p
   byte-small r h = go (decLe (q * s + i) r) (decLt r (q * s + i + (s - i)))
     where
       go : Dec (q * s + i ≤ r) → Dec (r < q * s + i + (s - i)) → getD ys r 0 < p
@@ -146,7 +146,7 @@ module _ {plan : Plan} {i c : ℕ} {xs : List ℕ} (tries : Tries plan i c xs) {
           apart (yes l) = inl l
           apart (no l) = inr (inl (omega arith))
 
-  pub taken : Raised plan i c q (suc q) xs ys
+  pub taken : Lifted plan i c q (suc q) xs ys
   taken =
       let long = length-subtracted p (negByte p c) (q * s + i) (suc q * s) xs (s - i) in
       let a = above in
@@ -160,15 +160,15 @@ module _ {plan : Plan} {i c : ℕ} {xs : List ℕ} (tries : Tries plan i c xs) {
       }
 
 -- a run of slots, from the lowest up
-pub raised-none : {plan : Plan} {i c j : ℕ} {xs : List ℕ} → Laid plan xs → Raised plan i c j j xs xs
+pub raised-none : {plan : Plan} {i c j : ℕ} {xs : List ℕ} → Laid plan xs → Lifted plan i c j j xs xs
 raised-none {plan} {xs = xs} laid =
-    record { laid = laid; slots = λ a e h k g. absurd (omega arith); others = λ a e o. refl; rest = untouched-none (curveBytes (shapeOf plan)) xs }
+    record { laid = laid; slots = λ a e h k g. absurd (omega arith); others = λ a e o. refl; rest = untouched-none (curveBytes (planShape plan)) xs }
 
-module _ {plan : Plan} {i c j q : ℕ} {xs ys zs : List ℕ} (done : Raised plan i c j q xs ys) (from : j ≤ q) (one : Raised plan i c q (suc q) ys zs) where
+module _ {plan : Plan} {i c j q : ℕ} {xs ys zs : List ℕ} (done : Lifted plan i c j q xs ys) (from : j ≤ q) (one : Lifted plan i c q (suc q) ys zs) where
   abbrev took : (zs : List ℕ) → ℕ → ℕ → Element (plan .p)
   took zs a e = sumOf (plan .p) (curveOf plan zs a e) (productOf (plan .p) (symbol (plan .p) c) (curveOf plan zs (suc a) (e - i)))
 
-  pub raised-more : Raised plan i c j (suc q) xs zs
+  pub raised-more : Lifted plan i c j (suc q) xs zs
   raised-more = record { laid = one .laid; slots = slots; others = others; rest = untouched-then (done .rest) (one .rest) }
     where
       slots : (a e : ℕ) → j ≤ a → a < suc q → i ≤ e → curveOf plan zs a e ≡ took xs a e
@@ -198,7 +198,7 @@ module _ {plan : Plan} {xs : List ℕ} (laid : Laid plan xs) (i c : ℕ) where
   tall : Height F (suc (plan .l)) T
   tall a e k = curve-high plan xs e (omega arith)
 
-  pub raised-pass : {j : ℕ} {ys : List ℕ} → Raised plan i c j (plan .l) xs ys → curveOf plan ys ≡ pass (Series F) h j T
+  pub raised-pass : {j : ℕ} {ys : List ℕ} → Lifted plan i c j (plan .l) xs ys → curveOf plan ys ≡ pass (Series F) h j T
   raised-pass {j} {ys} r = fun-ext (λ a. fun-ext (λ e. go a e (decLt a j) (decLt e i) (decLt a (plan .l))))
     where
       go : (a e : ℕ) → Dec (a < j) → Dec (e < i) → Dec (a < plan .l) → curveOf plan ys a e ≡ pass (Series F) h j T a e
@@ -216,16 +216,16 @@ pub record Shifting (plan : Plan) (i c j : ℕ) (xs ys : List ℕ) : Type 0 wher
   pub laid : Laid plan ys
   pub left : passes (Series (symbols (plan .p) .ring)) (mono (symbols (plan .p) .ring) (symbol (plan .p) c) i) j (curveOf plan ys)
       ≡ passes (Series (symbols (plan .p) .ring)) (mono (symbols (plan .p) .ring) (symbol (plan .p) c) i) (plan .l) (curveOf plan xs)
-  pub rest : Untouched (curveBytes (shapeOf plan)) xs ys
+  pub rest : Untouched (curveBytes (planShape plan)) xs ys
 
 passes-suc : (R : Ring) (h : R .Car) (a : ℕ) (f : Seq R) → passes R h (suc a) f ≡ passes R h a (pass R h a f)
 unfolding passes
 passes-suc R h a f = refl
 
 pub shifting-none : {plan : Plan} {i c : ℕ} {xs : List ℕ} → Laid plan xs → Shifting plan i c (plan .l) xs xs
-shifting-none {plan} {xs = xs} laid = record { inside = omega arith; laid = laid; left = refl; rest = untouched-none (curveBytes (shapeOf plan)) xs }
+shifting-none {plan} {xs = xs} laid = record { inside = omega arith; laid = laid; left = refl; rest = untouched-none (curveBytes (planShape plan)) xs }
 
-pub shifting-more : {plan : Plan} {i c j : ℕ} {xs ys zs : List ℕ} → Shifting plan i c j xs ys → 0 < j → Raised plan i c (j - 1) (plan .l) ys zs → Shifting plan i c (j - 1) xs zs
+pub shifting-more : {plan : Plan} {i c j : ℕ} {xs ys zs : List ℕ} → Shifting plan i c j xs ys → 0 < j → Lifted plan i c (j - 1) (plan .l) ys zs → Shifting plan i c (j - 1) xs zs
 shifting-more {plan} {i} {c} {j} {xs} {ys} {zs} s some r =
     let R : Ring = symbols (plan .p) .ring in
     let e : j ≡ suc (j - 1) = omega arith in
@@ -255,11 +255,11 @@ shifted {plan} {i} {c} {xs} laid s =
     }
 
 -- two curves that are the same lie in the same bytes
-pub laid-same : {plan : Plan} {xs ys : List ℕ} → Laid plan xs → Laid plan ys → curveOf plan ys ≡ curveOf plan xs → Untouched (curveBytes (shapeOf plan)) xs ys → ys ≡ xs
+pub laid-same : {plan : Plan} {xs ys : List ℕ} → Laid plan xs → Laid plan ys → curveOf plan ys ≡ curveOf plan xs → Untouched (curveBytes (planShape plan)) xs ys → ys ≡ xs
 laid-same {plan} {xs} {ys} a b e u =
-    untouched-unique (curveBytes (shapeOf plan)) u (untouched-none (curveBytes (shapeOf plan)) xs)
+    untouched-unique (curveBytes (planShape plan)) u (untouched-none (curveBytes (planShape plan)) xs)
     (λ q l.
-    let r = in-curve (shapeOf plan) l in
+    let r = in-curve (planShape plan) l in
     rw (r .is) (sym (curve-byte b (r .low) (r .short)) ∙ ap (λ (T : Curve (symbols (plan .p) .ring)). T (r .power) (r .degree) .byte) e ∙ curve-byte a (r .low) (r .short)))
 
 pub shifted-back : {plan : Plan} {i c : ℕ} {xs ys zs : List ℕ} → Laid plan xs → Shifted plan i c xs ys → Shifted plan i (negByte (plan .p) c) ys zs → zs ≡ xs

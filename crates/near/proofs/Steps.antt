@@ -15,7 +15,7 @@ use Rattle.rows.specs.Curves.{Curve}
 use Rattle.rows.specs.Turns.{mono}
 use Rattle.rows.proofs.Put.{choose-yes, choose-no}
 use Rattle.rows.proofs.Monomials.{mono-mul-at, mono-mul-low, mono-pow}
-use Rattle.near.specs.Search.{curveAt, line, slice}
+use Rattle.near.specs.Search.{curveAt, prefixed, slice}
 
 module _ {R : Ring} (L : RingLaws R) where
   open Ring R using (𝟘, 𝟙)
@@ -31,13 +31,13 @@ module _ {R : Ring} (L : RingLaws R) where
   unfolding slice
   slice-beyond i v T j h = choose-no (decLe (i * j) v) (T j (v - i * j)) 𝟘 (λ k. omega arith)
 
-  line-at : (N : ℕ) (g : Seq R) (i : ℕ) (Q : Curve R) (j : ℕ) → curveAt R N (line R g i) Q j ≡ pow (Series R) (mono R 𝟙 i) j ⊠ shift (Series R) g N Q j
+  prefixed-at : (N : ℕ) (g : Seq R) (i : ℕ) (Q : Curve R) (j : ℕ) → curveAt R N (prefixed R g i) Q j ≡ pow (Series R) (mono R 𝟙 i) j ⊠ shift (Series R) g N Q j
   unfolding curveAt
-  line-at N g i Q j = value-line (series L) g (mono R 𝟙 i) N Q j
+  prefixed-at N g i Q j = value-line (series L) g (mono R 𝟙 i) N Q j
 
   -- Q at y = g + x^i y, by the slices of T = Q at y = g + y
-  pub line-slice : (N : ℕ) (g : Seq R) (i : ℕ) (Q : Curve R) (j v : ℕ) → curveAt R N (line R g i) Q j v ≡ slice R i v (shift (Series R) g N Q) j
-  line-slice N g i Q j v = ap (λ (f : Seq R). f v) (line-at N g i Q j) ∙ rw (mono-pow L i j) (go (decLe (i * j) v))
+  pub prefixed-slice : (N : ℕ) (g : Seq R) (i : ℕ) (Q : Curve R) (j v : ℕ) → curveAt R N (prefixed R g i) Q j v ≡ slice R i v (shift (Series R) g N Q) j
+  prefixed-slice N g i Q j v = ap (λ (f : Seq R). f v) (prefixed-at N g i Q j) ∙ rw (mono-pow L i j) (go (decLe (i * j) v))
     where
       T : Curve R
       T = shift (Series R) g N Q
@@ -49,9 +49,9 @@ module _ {R : Ring} (L : RingLaws R) where
       go (no k) = mono-mul-low L 𝟙 (i * j) v (T j) (omega arith) ∙ sym (slice-beyond i v T j (omega arith))
 
   -- Q at y = g + x^i y, then at y = f, is Q at y = g + x^i f
-  line-value : (N : ℕ) (g f : Seq R) (i : ℕ) (Q : Curve R) → value (Series R) f N (curveAt R N (line R g i) Q) ≡ value (Series R) (mono R 𝟙 i ⊠ f ⊞ g) N Q
-  line-value N g f i Q =
-      ap (value (Series R) f N) (fun-ext (line-at N g i Q))
+  prefixed-value : (N : ℕ) (g f : Seq R) (i : ℕ) (Q : Curve R) → value (Series R) f N (curveAt R N (prefixed R g i) Q) ≡ value (Series R) (mono R 𝟙 i ⊠ f ⊞ g) N Q
+  prefixed-value N g f i Q =
+      ap (value (Series R) f N) (fun-ext (prefixed-at N g i Q))
       ∙ value-powers (series L) (mono R 𝟙 i) f N (shift (Series R) g N Q)
       ∙ value-shift (series L) (mono R 𝟙 i ⊠ f) g N Q
 
@@ -59,7 +59,7 @@ module _ {R : Ring} (L : RingLaws R) where
   pub root-symbol : (N : ℕ) (g f : Seq R) (i : ℕ) (Q : Curve R) (v : ℕ) → value (Series R) (mono R 𝟙 i ⊠ f ⊞ g) N Q ≡ zeroS R
       → ((e j : ℕ) → e < v → slice R i e (shift (Series R) g N Q) j ≡ 𝟘) → value R (f 0) N (slice R i v (shift (Series R) g N Q)) ≡ 𝟘
   root-symbol N g f i Q v root none =
-      ap (value R (f 0) N) (fun-ext (λ j. sym (line-slice N g i Q j v)))
-      ∙ sym (value-lowest L v N (curveAt R N (line R g i) Q) f (λ j e l. line-slice N g i Q j e ∙ none e j l))
-      ∙ ap (λ (k : Seq R). k v) (line-value N g f i Q ∙ root)
+      ap (value R (f 0) N) (fun-ext (λ j. sym (prefixed-slice N g i Q j v)))
+      ∙ sym (value-lowest L v N (curveAt R N (prefixed R g i) Q) f (λ j e l. prefixed-slice N g i Q j e ∙ none e j l))
+      ∙ ap (λ (k : Seq R). k v) (prefixed-value N g f i Q ∙ root)
       ∙ zeroS-at R v

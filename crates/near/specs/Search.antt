@@ -1,6 +1,6 @@
 -- The search for the near messages, symbol by symbol, on a curve Q of fewer than N powers of y and of weight below W.
 --   curveAt N s Q       Q at y = s
---   line g i            g + x^i y
+--   prefixed g i        g + x^i y
 --   Fits N g i Q c      c fits after the i symbols that form g: it is a root, at x = 0, of Q at y = g + x^i y divided by its highest power
 --                       of x
 -- The search keeps one curve, T = Q at y = g + y, and reads from it which symbols fit (proofs/Fitting.antt).
@@ -29,14 +29,14 @@ module _ (R : Ring) where
   unfoldable pub curveAt : ℕ → Curve R → Curve R → Curve R
   curveAt N s Q = value (Series (Series R)) s N (λ j. constS (Series R) (Q j))
 
-  abbrev pub line : Seq R → ℕ → Curve R
-  line g i = consS (Series R) g (constS (Series R) (mono R (R .𝟙) i))
+  abbrev pub prefixed : Seq R → ℕ → Curve R
+  prefixed g i = consS (Series R) g (constS (Series R) (mono R (R .𝟙) i))
 
   pub record Fits (N : ℕ) (g : Seq R) (i : ℕ) (Q : Curve R) (c : R .Car) : Type 0 where
     pub power : ℕ
-    pub divides : (j e : ℕ) → e < power → curveAt N (line g i) Q j e ≡ R .𝟘
-    pub highest : ((j : ℕ) → curveAt N (line g i) Q j power ≡ R .𝟘) → ⊥
-    pub root : value R c N (λ j. curveAt N (line g i) Q j power) ≡ R .𝟘
+    pub divides : (j e : ℕ) → e < power → curveAt N (prefixed g i) Q j e ≡ R .𝟘
+    pub highest : ((j : ℕ) → curveAt N (prefixed g i) Q j power ≡ R .𝟘) → ⊥
+    pub root : value R c N (λ j. curveAt N (prefixed g i) Q j power) ≡ R .𝟘
 
   abbrev pub chosen : ℕ → ℕ → R .Car → Curve R → Curve R
   chosen N i c T = curveAt N (consS (Series R) (mono R c i) (oneS (Series R))) T

@@ -1,11 +1,11 @@
 -- What the functions of the search ask and give. Their curve lies in bytes as a row does; the bytes themselves come back as they were.
---   shapeOf plan            the numbers by which the curve's bytes are read
+--   planShape plan          the numbers by which the curve's bytes are read
 --   curveOf plan xs         the curve that the bytes xs are
 --   sliceOf plan xs i v     the coefficient of x^v in that curve at y = x^i y, as a polynomial in y
 --   RootAt plan xs i v c    c is a root of it
 --   Laid plan xs            they are a curve of which no term weighs more than the width, each coefficient below p
 --   Tries plan i c xs       the curve is laid, and c is tried as the symbol at x^i
---   Raised plan i c j q xs ys   each of the slots from j to q - 1 took c x^i times the slot above, as it was
+--   Lifted plan i c j q xs ys   each of the slots from j to q - 1 took c x^i times the slot above, as it was
 --   Shifted plan i c xs ys  the bytes ys are what the curve becomes when c is chosen as the symbol at x^i; no other byte is written
 --   Received plan points word   messages are not empty; points and symbols are below p, and as many
 --   jobOf plan points word  the task
@@ -42,11 +42,11 @@ use Rattle.near.specs.Job.{workingRoom, flat, TheCurve, RuleUpdates}
 use Rattle.near.specs.declared.Weighed.{Weighed}
 use Rattle.near.specs.declared.search.Plan.{Plan}
 
-abbrev pub shapeOf : Plan → Shape
-shapeOf plan = record { p = plan .p; u = plan .k - 1; width = plan .width; l = plan .l }
+abbrev pub planShape : Plan → Shape
+planShape plan = record { p = plan .p; u = plan .k - 1; width = plan .width; l = plan .l }
 
 abbrev pub curveOf : (plan : Plan) → List ℕ → Curve (symbols (plan .p) .ring)
-curveOf plan xs = rowsOf (shapeOf plan) xs 0
+curveOf plan xs = rowsOf (planShape plan) xs 0
 
 abbrev pub sliceOf : (plan : Plan) → List ℕ → ℕ → ℕ → Seq (symbols (plan .p) .ring)
 sliceOf plan xs i v = slice (symbols (plan .p) .ring) i v (curveOf plan xs)
@@ -55,9 +55,9 @@ abbrev pub RootAt : (plan : Plan) → List ℕ → ℕ → ℕ → ℕ → Type 
 RootAt plan xs i v c = value (symbols (plan .p) .ring) (symbol (plan .p) c) (suc (plan .l)) (sliceOf plan xs i v) ≡ symbol (plan .p) 0
 
 pub record Laid (plan : Plan) (xs : List ℕ) : Type 0 where
-  pub fine : Fine (shapeOf plan)
-  pub room : curveBytes (shapeOf plan) ≤ length xs
-  pub below : (q : ℕ) → q < curveBytes (shapeOf plan) → getD xs q 0 < plan .p
+  pub fine : Fine (planShape plan)
+  pub room : curveBytes (planShape plan) ≤ length xs
+  pub below : (q : ℕ) → q < curveBytes (planShape plan) → getD xs q 0 < plan .p
   pub light : Under (symbols (plan .p) .ring) (plan .k - 1) (suc (plan .width)) 0 (curveOf plan xs)
 
 pub record Tries (plan : Plan) (i c : ℕ) (xs : List ℕ) : Type 0 where
@@ -65,17 +65,17 @@ pub record Tries (plan : Plan) (i c : ℕ) (xs : List ℕ) : Type 0 where
   pub next : i < plan .k
   pub small : c < plan .p
 
-pub record Raised (plan : Plan) (i c j q : ℕ) (xs ys : List ℕ) : Type 0 where
+pub record Lifted (plan : Plan) (i c j q : ℕ) (xs ys : List ℕ) : Type 0 where
   pub laid : Laid plan ys
   pub slots : (a e : ℕ) → j ≤ a → a < q → i ≤ e
       → curveOf plan ys a e ≡ sumOf (plan .p) (curveOf plan xs a e) (productOf (plan .p) (symbol (plan .p) c) (curveOf plan xs (suc a) (e - i)))
   pub others : (a e : ℕ) → (a < j) ⊎ ((q ≤ a) ⊎ (e < i)) → curveOf plan ys a e ≡ curveOf plan xs a e
-  pub rest : Untouched (curveBytes (shapeOf plan)) xs ys
+  pub rest : Untouched (curveBytes (planShape plan)) xs ys
 
 pub record Shifted (plan : Plan) (i c : ℕ) (xs ys : List ℕ) : Type 0 where
   pub laid : Laid plan ys
   pub curve : curveOf plan ys ≡ chosen (symbols (plan .p) .ring) (suc (plan .l)) i (symbol (plan .p) c) (curveOf plan xs)
-  pub rest : Untouched (curveBytes (shapeOf plan)) xs ys
+  pub rest : Untouched (curveBytes (planShape plan)) xs ys
 
 pub record Received (plan : Plan) (points word : List ℕ) : Type 0 where
   pub size : Listed (plan .p)

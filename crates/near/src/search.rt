@@ -9,7 +9,7 @@ ghost use Rattle.poly.specs.Buffers.{Decided};
 ghost use Rattle.rows.specs.Bytes.{width};
 ghost use Rattle.near.specs.Lists.{Spelt, agreements as agreementsOf, polynomial};
 ghost use Rattle.near.specs.Search.{some?, lowest as lowestOf};
-ghost use Rattle.near.specs.Work.{curveOf, sliceOf, RootAt, Laid, Tries, Raised, Shifted, Received, jobOf, after, with, kept, Room, Wrote, Searches, Leaves, planOf, foundOn, Runs, Ran};
+ghost use Rattle.near.specs.Work.{curveOf, sliceOf, RootAt, Laid, Tries, Lifted, Shifted, Received, jobOf, after, with, kept, Room, Wrote, Searches, Leaves, planOf, foundOn, Runs, Ran};
 use field::Symbol;
 
 pub struct Plan {
@@ -94,7 +94,7 @@ fn fits(curve: &[u8], plan: Plan, i: usize, low: usize, c: u8) -> bool
 fn take_above(curve: &mut [u8], plan: Plan, i: usize, c: Symbol, q: usize)
     requires { ⌜ Tries plan i (c .value) (now curve) ⌝ }
     requires { ⌜ q < plan .l ⌝ }
-    ensures { λ _. ⌜ Raised plan i (c .value) q (suc q) (now (curve .entry)) (now (curve .exit)) ⌝ }
+    ensures { λ _. ⌜ Lifted plan i (c .value) q (suc q) (now (curve .entry)) (now (curve .exit)) ⌝ }
 {
     let slot = plan.width + 1;
     let less = c.negative(plan.p);
@@ -105,7 +105,7 @@ fn take_above(curve: &mut [u8], plan: Plan, i: usize, c: Symbol, q: usize)
 fn raise(curve: &mut [u8], plan: Plan, i: usize, c: Symbol, j: usize)
     requires { ⌜ Tries plan i (c .value) (now curve) ⌝ }
     requires { ⌜ j < plan .l ⌝ }
-    ensures { λ _. ⌜ Raised plan i (c .value) j (plan .l) (now (curve .entry)) (now (curve .exit)) ⌝ }
+    ensures { λ _. ⌜ Lifted plan i (c .value) j (plan .l) (now (curve .entry)) (now (curve .exit)) ⌝ }
 {
     let mut q = j;
     while q < plan.l {

@@ -13,7 +13,7 @@ use Rattle.near.specs.declared.Near.{Near}
 use Rattle.text.specs.declared.Request.{Request}
 use Rattle.text.specs.Requests.{HasRead}
 use Rattle.text.specs.Requests.HasRead.{readable, unreadable}
-use Rattle.text.specs.Answers.{outcome, HasWritten}
+use Rattle.text.specs.Answers.{reply, HasWritten}
 use Rattle.program.specs.Program.{messageRoom, Answered, unread, listed}
 
 true≢false : true ≡ false → ⊥
@@ -27,7 +27,7 @@ read-inside (unreadable none) = (omega arith, omega arith)
 first-part : (xs ys : List ℕ) → take (length xs) (xs ++ ys) ≡ xs
 first-part xs ys = take-append-le (length xs) xs ys (le-refl (length xs)) ∙ take-length xs
 
-pub unread-answer : {text before after : List ℕ} {r : ℕ} {back : Request} → HasRead text back → back .ok ≡ false → HasWritten (outcome 14 0 0 0 0 []) before after r → Answered text before after r
+pub unread-answer : {text before after : List ℕ} {r : ℕ} {back : Request} → HasRead text back → back .ok ≡ false → HasWritten (reply 14 0 0 0 0 []) before after r → Answered text before after r
 unread-answer (readable q p) e w = absurd (true≢false e)
 unread-answer (unreadable none) e w = unread none w
 
@@ -35,6 +35,6 @@ unread-answer (unreadable none) e w = unread none w
 module _ {text before after : List ℕ} {r : ℕ} (left messages : List ℕ) (near : Near) where
   pub listed-answer : {back : Request} → HasRead text back → back .ok ≡ true
       → HasListed (back .field) (take (back .n) (back .points)) (take (back .count) (back .word)) (back .k) (back .m) (back .l) (back .t) (replicate workingRoom 0) left (replicate messageRoom 0) messages near
-      → HasWritten (outcome (near .number) (near .updates) (near .weight) (near .count) (back .k) messages) before after r → Answered text before after r
+      → HasWritten (reply (near .number) (near .updates) (near .weight) (near .count) (back .k) messages) before after r → Answered text before after r
   listed-answer (readable q p) e h w = listed q p left messages near (rw (first-part (q .points) _, first-part (q .word) _) at h) w
   listed-answer (unreadable none) e h w = absurd (true≢false (sym e))

@@ -1,5 +1,5 @@
 -- A text has one answer: two outcomes of `answer` on the same text and lent bytes leave the same bytes and the same length. The text has one
--- meaning, the list job one outcome on it, and an outcome one text.
+-- meaning, the list job one reply on it, and an reply one text.
 use mathlib.Core.Path.{_≡_, sym, subst}
 use mathlib.Core.List.{List}
 use Prim.Native.Nat.{ℕ}
@@ -8,7 +8,7 @@ use Rattle.near.specs.Job.{workingRoom, HasListed}
 use Rattle.near.specs.declared.Near.{Near}
 use Rattle.near.proofs.Determined.{list-determined}
 use Rattle.text.specs.Requests.{Meaning}
-use Rattle.text.specs.Answers.{outcome, HasWritten}
+use Rattle.text.specs.Answers.{reply, HasWritten}
 use Rattle.text.proofs.Grammar.{one-meaning}
 use Rattle.text.proofs.Outcomes.{write-determined}
 use Rattle.program.specs.Program.{messageRoom, Answered, unread, listed}
@@ -19,7 +19,7 @@ record Listed (q : Meaning) (before after : List ℕ) (r : ℕ) : Type 0 where
   messages : List ℕ
   back : Near
   lists : HasListed (q .field) (q .points) (q .word) (q .k) (q .m) (q .l) (q .t) (replicate workingRoom 0) left (replicate messageRoom 0) messages back
-  writes : HasWritten (outcome (back .number) (back .updates) (back .weight) (back .count) (q .k) messages) before after r
+  writes : HasWritten (reply (back .number) (back .updates) (back .weight) (back .count) (q .k) messages) before after r
 
 listed-determined : {q : Meaning} {before x y : List ℕ} {r s : ℕ} → Listed q before x r → Listed q before y s → (x ≡ y) × (r ≡ s)
 listed-determined a b =

@@ -8,13 +8,13 @@ use lib.ListN.{replicate}
 use Rattle.near.specs.Job.{workingRoom, HasListed}
 use Rattle.near.specs.declared.Near.{Near}
 use Rattle.text.specs.Requests.{Meaning, Readable}
-use Rattle.text.specs.Answers.{outcome, HasWritten}
+use Rattle.text.specs.Answers.{reply, HasWritten}
 
 abbrev pub messageRoom : ℕ
 messageRoom = 240
 
 pub data Answered (text before after : List ℕ) (r : ℕ) : Type 0 where
-  unread : ((q : Meaning) → Readable text q → ⊥) → HasWritten (outcome 14 0 0 0 0 []) before after r → Answered text before after r
+  unread : ((q : Meaning) → Readable text q → ⊥) → HasWritten (reply 14 0 0 0 0 []) before after r → Answered text before after r
   listed : (q : Meaning) → Readable text q → (left messages : List ℕ) (back : Near)
       → HasListed (q .field) (q .points) (q .word) (q .k) (q .m) (q .l) (q .t) (replicate workingRoom 0) left (replicate messageRoom 0) messages back
-      → HasWritten (outcome (back .number) (back .updates) (back .weight) (back .count) (q .k) messages) before after r → Answered text before after r
+      → HasWritten (reply (back .number) (back .updates) (back .weight) (back .count) (q .k) messages) before after r → Answered text before after r

@@ -4,7 +4,7 @@ use mathlib.Core.List.{List, _∷_, _++_, append-assoc, append-cancel-left}
 use Prim.Native.Nat.{ℕ}
 use native.Mathlib.Omega.{arith}
 use Rattle.text.specs.Lines.{line}
-use Rattle.text.specs.Requests.{Number, Listed, Optional, Line, Meaning, Readable}
+use Rattle.text.specs.Requests.{Number, FewNumbers, Optional, Line, Meaning, Readable}
 use Rattle.text.specs.Reading.{Free}
 use Rattle.text.proofs.Places.{free-parts}
 use Rattle.text.proofs.Numbers.{number-same, number-free, numbers-same, numbers-free, optional-same, optional-free}
@@ -20,7 +20,7 @@ number-plain = record { same = λ text x y. number-same; free = λ text x. numbe
 pub optional-plain : (other : ℕ) → Plain (Optional other)
 optional-plain other = record { same = λ text x y. optional-same other; free = λ text x. optional-free other }
 
-pub listed-plain : Plain Listed
+pub listed-plain : Plain FewNumbers
 listed-plain = record { same = λ text x y p q. numbers-same (p .numbers) (q .numbers); free = λ text x p. numbers-free (p .numbers) }
 
 pub line-flat : (key v rest : List ℕ) → line key v ++ rest ≡ key ++ (v ++ 10 ∷ rest)

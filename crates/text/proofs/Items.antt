@@ -7,16 +7,16 @@ use native.Mathlib.Decide.{decLt}
 use native.Mathlib.Omega.{arith}
 use lib.ListN.{length, set, take, drop, replicate, length-append}
 use lib.Seq.{take-at, set-at, append-snoc}
-use Rattle.text.specs.Requests.{Number, Numbers, Listed, most, padded}
+use Rattle.text.specs.Requests.{Number, Numbers, FewNumbers, most, padded}
 use Rattle.text.specs.Requests.Numbers.{one, more}
-use Rattle.text.specs.Reading.{Seeks, Holds, Lists, part}
+use Rattle.text.specs.Reading.{Seeks, HoldsNumbers, ReadsNumbers, part}
 use Rattle.text.proofs.Places.{seek-seam, seek-last}
 use Rattle.text.proofs.Numbers.{Parted, number-same, numbers-some, numbers-last, numbers-more}
 
 -- the numbers `read` stand before `at`, and in the array
 pub record SoFar (text items : List ℕ) (count at : ℕ) : Type 0 where
   pub read : List ℕ
-  pub held : Holds read count items
+  pub held : HoldsNumbers read count items
   pub few : count ≤ most
   pub within : at ≤ length text
   pub whole : (ns : List ℕ) → Numbers (drop at text) ns → Numbers text (read ++ ns)
@@ -32,7 +32,7 @@ none-yet text = record {
   parts = λ ns r. (ns, refl, r);
 }
 
-holds-more : (xs items : List ℕ) (count n : ℕ) → count < most → Holds xs count items → Holds (xs ++ n ∷ []) (count + 1) (set items count n)
+holds-more : (xs items : List ℕ) (count n : ℕ) → count < most → HoldsNumbers xs count items → HoldsNumbers (xs ++ n ∷ []) (count + 1) (set items count n)
 holds-more xs items count n h held =
     let long : length (xs ++ n ∷ []) ≡ count + 1 = rw length-append (omega (arith, held .counted)) in
     let zeros : List ℕ = replicate (most - length (xs ++ n ∷ [])) 0 in
@@ -45,13 +45,13 @@ holds-more xs items count n h held =
           ∙ sym (append-snoc xs n zeros);
     }
 
-take-held : {xs items : List ℕ} {count : ℕ} → Holds xs count items → take count items ≡ xs
+take-held : {xs items : List ℕ} {count : ℕ} → HoldsNumbers xs count items → take count items ≡ xs
 take-held {xs = xs} {count = count} held = ap (take count) (held .padded) ∙ take-at xs _ count (sym (held .counted))
 
-lists-not : (text : List ℕ) → ((ns : List ℕ) → Listed text ns → ⊥) → Lists text false 0 (padded [])
+lists-not : (text : List ℕ) → ((ns : List ℕ) → FewNumbers text ns → ⊥) → ReadsNumbers text false 0 (padded [])
 lists-not text f = record { meant = record { holds = λ e. absurd (false≢true e); fails = λ _. f }; kept = λ e. absurd (false≢true e) }
 
-pub too-many : {text items : List ℕ} {count at : ℕ} → SoFar text items count at → most ≤ count → Lists text false 0 (padded [])
+pub too-many : {text items : List ℕ} {count at : ℕ} → SoFar text items count at → most ≤ count → ReadsNumbers text false 0 (padded [])
 too-many {text = text} so h = lists-not text (λ ns r. let p = so .parts ns (r .numbers) in
     omega (arith, r .few, so .held .counted, simp length-append at (ap length (p .1)), numbers-some (p .2)))
 
@@ -72,18 +72,18 @@ module _ {text items : List ℕ} {count at to : ℕ} (so : SoFar text items coun
         (q .others, p .1 ∙ ap (λ (l : List ℕ). so .read ++ l) (q .is ∙ ap (λ (x : ℕ). x ∷ q .others) (number-same (q .head) r)) ∙ sym (append-snoc (so .read) n (q .others)), q .tail);
   }
 
-  pub last-item : (n : ℕ) → count < most → length text ≤ to → Number (part at to text) n → Lists text true (count + 1) (set items count n)
+  pub last-item : (n : ℕ) → count < most → length text ≤ to → Number (part at to text) n → ReadsNumbers text true (count + 1) (set items count n)
   last-item n c h r =
       let held = holds-more (so .read) items count n c (so .held) in
-      let listed : Listed text (so .read ++ n ∷ []) =
+      let listed : FewNumbers text (so .read ++ n ∷ []) =
       record { numbers = so .whole (n ∷ []) (rw (seek-last ends h) (one r)); few = omega (arith, held .counted) } in
       let is = take-held held in
       record {
-        meant = record { holds = λ _. subst (Listed text) (sym is) listed; fails = λ e. absurd (true≢false e) };
-        kept = λ _. subst (λ xs. Holds xs (count + 1) (set items count n)) (sym is) held;
+        meant = record { holds = λ _. subst (FewNumbers text) (sym is) listed; fails = λ e. absurd (true≢false e) };
+        kept = λ _. subst (λ xs. HoldsNumbers xs (count + 1) (set items count n)) (sym is) held;
       }
 
-  pub no-item : ((n : ℕ) → Number (part at to text) n → ⊥) → Lists text false 0 (padded [])
+  pub no-item : ((n : ℕ) → Number (part at to text) n → ⊥) → ReadsNumbers text false 0 (padded [])
   no-item f = lists-not text (λ ns r. let p = so .parts ns (r .numbers) in elim (decLt to (length text)) [
     | yes h ↦ let q = parted h (p .2) in f (q .n) (q .head)
     | no h ↦ let q = numbers-last (ends .free) (rw (seek-last ends (omega arith)) at (p .2)) in f (q .0) (q .2)

@@ -1,9 +1,9 @@
--- Answers: the text that an outcome prints.
+-- Answers: the text that a reply prints.
 --   decimal n                n in decimal, without leading zeros
 --   commas ns                the numbers with commas between them
 --   message k xs i           message i of those in xs, k symbols each
 --   messageLines count k xs  a line for each of the first `count` messages
---   Outcome                  the number from the table, and what is printed beside the number 0
+--   Reply                    the number from the table, and what is printed beside the number 0
 --   answer o                 the text
 --   room o                   so many bytes are enough for it: a number takes at most five, a comma or a line feed one more
 --   HasWritten o before after r   what is left and handed back: the text and its length, or nothing where out may be too short or messages are missing
@@ -43,7 +43,7 @@ unfoldable pub messageLines : ℕ → ℕ → List ℕ → List ℕ
 messageLines zero k xs = []
 messageLines (suc i) k xs = messageLines i k xs ++ line (bytes "message=") (commas (message k xs i))
 
-pub record Outcome : Type 0 where
+pub record Reply : Type 0 where
   pub number : ℕ
   pub updates : ℕ
   pub weight : ℕ
@@ -51,11 +51,11 @@ pub record Outcome : Type 0 where
   pub k : ℕ
   pub messages : List ℕ
 
-abbrev pub outcome : ℕ → ℕ → ℕ → ℕ → ℕ → List ℕ → Outcome
-outcome number updates weight count k messages = record { number = number; updates = updates; weight = weight; count = count; k = k; messages = messages }
+abbrev pub reply : ℕ → ℕ → ℕ → ℕ → ℕ → List ℕ → Reply
+reply number updates weight count k messages = record { number = number; updates = updates; weight = weight; count = count; k = k; messages = messages }
 
 -- the lines after the first
-unfoldable pub details : ℕ → Outcome → List ℕ
+unfoldable pub details : ℕ → Reply → List ℕ
 details zero o =
     line (bytes "updates=") (decimal (o .updates)) ++
     (line (bytes "weight=") (decimal (o .weight)) ++
@@ -63,12 +63,12 @@ details zero o =
     messageLines (o .count) (o .k) (o .messages)))
 details (suc number) o = []
 
-abbrev pub answer : Outcome → List ℕ
+abbrev pub answer : Reply → List ℕ
 answer o = line (bytes "answer=") (decimal (o .number)) ++ details (o .number) o
 
-abbrev pub room : Outcome → ℕ
+abbrev pub room : Reply → ℕ
 room o = 52 + o .count * (9 + 6 * o .k)
 
-pub data HasWritten (o : Outcome) (before : List ℕ) : List ℕ → ℕ → Type 0 where
+pub data HasWritten (o : Reply) (before : List ℕ) : List ℕ → ℕ → Type 0 where
   written : room o ≤ length before → o .count * o .k ≤ length (o .messages) → HasWritten o before (answer o ++ drop (length (answer o)) before) (length (answer o))
   refused : (length before < room o) ⊎ (length (o .messages) < o .count * o .k) → HasWritten o before before 0

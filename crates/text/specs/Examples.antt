@@ -5,10 +5,10 @@ use Prim.Native.Nat.{ℕ, zero, suc, _-_, _≤_, _<_}
 use native.Mathlib.Omega.{arith}
 use lib.ListN.{getD}
 use Rattle.text.specs.Lines.{bytes, line}
-use Rattle.text.specs.Requests.{written, Number, Listed, Line, Readable}
+use Rattle.text.specs.Requests.{written, Number, FewNumbers, Line, Readable}
 use Rattle.text.specs.Requests.Numbers.{one, more}
 use Rattle.text.specs.Requests.Optional.{nothing}
-use Rattle.text.specs.Answers.{digits, comma, joined, messageLines, outcome, details, answer}
+use Rattle.text.specs.Answers.{digits, comma, joined, messageLines, reply, details, answer}
 
 -- a number of one digit
 digit : (b : ℕ) → 48 ≤ b → b ≤ 57 → Number (b ∷ []) (b - 48)
@@ -22,7 +22,7 @@ digit b low high = record { some = omega arith; few = omega arith; digits = firs
 then : (key value rest : List ℕ) {Value Rest : List ℕ → Type 0} → Value value → Rest rest → Line key Value Rest (line key value ++ rest)
 then key value rest v r = record { value = value; rest = rest; is = refl; means = v; follows = r }
 
-three : Listed (bytes "1,2,3") (1 ∷ 2 ∷ 3 ∷ [])
+three : FewNumbers (bytes "1,2,3") (1 ∷ 2 ∷ 3 ∷ [])
 three = record { numbers = more (digit 49 (omega arith) (omega arith)) (more (digit 50 (omega arith) (omega arith)) (one (digit 51 (omega arith) (omega arith)))); few = omega arith }
 
 request-example : Readable (bytes "field=7\nk=2\nm=\nl=\nt=2\npoints=1,2,3\nword=1,2,3\n") (record { field = 7; k = 2; m = 1; l = 1; t = 2; points = 1 ∷ 2 ∷ 3 ∷ []; word = 1 ∷ 2 ∷ 3 ∷ [] })
@@ -36,11 +36,11 @@ request-example =
     (then (bytes "word=") (bytes "1,2,3") _ three
     refl))))))
 
-answer-example : answer (outcome 0 0 1 1 2 (0 ∷ 1 ∷ [])) ≡ bytes "answer=0\nupdates=0\nweight=1\ncount=1\nmessage=0,1\n"
+answer-example : answer (reply 0 0 1 1 2 (0 ∷ 1 ∷ [])) ≡ bytes "answer=0\nupdates=0\nweight=1\ncount=1\nmessage=0,1\n"
 unfolding digits comma joined messageLines details
 answer-example = refl
 
-refusal-example : answer (outcome 13 0 0 0 2 []) ≡ bytes "answer=13\n"
+refusal-example : answer (reply 13 0 0 0 2 []) ≡ bytes "answer=13\n"
 unfolding digits details
 refusal-example = refl
 

@@ -5,8 +5,8 @@
 --   Seeks b text at to         `to` is the first place of b from `at` on, or the end
 --   Begins key text at ok      whether the key stands at `at`
 --   Meant ok x P               whether P holds of something, and then of x
---   Holds xs count items       the array has the numbers xs, and zeros after them
---   Lists text ok count items  whether the text is a list of numbers, which are then in the array
+--   HoldsNumbers xs count items      the array has the numbers xs, and zeros after them
+--   ReadsNumbers text ok count items  whether the text is a list of numbers, which are then in the array
 --   Stands key text at from to   a line of this key starts at `at`; its value goes from `from` up to the line feed at `to`
 --   Found key text at ok from to   whether there is such a line
 --   Taken key Value text at x next   a line of this key starts at `at`, its value means x, and `next` is the place after it
@@ -17,7 +17,7 @@ use mathlib.Core.List.{List, _++_}
 use Prim.Native.Nat.{ℕ, _+_, _-_, _≤_, _<_}
 use lib.ListN.{length, getD, take, drop}
 use Rattle.text.specs.Lines.{line}
-use Rattle.text.specs.Requests.{Line, Listed, padded}
+use Rattle.text.specs.Requests.{Line, FewNumbers, padded}
 
 abbrev pub part : ℕ → ℕ → List ℕ → List ℕ
 part from to text = take (to - from) (drop from text)
@@ -42,13 +42,13 @@ pub record Meant {A : Type 0} (ok : Bool) (x : A) (P : A → Type 0) : Type 0 wh
   pub holds : ok ≡ true → P x
   pub fails : ok ≡ false → (y : A) → P y → ⊥
 
-pub record Holds (xs : List ℕ) (count : ℕ) (items : List ℕ) : Type 0 where
+pub record HoldsNumbers (xs : List ℕ) (count : ℕ) (items : List ℕ) : Type 0 where
   pub counted : count ≡ length xs
   pub padded : items ≡ padded xs
 
-pub record Lists (text : List ℕ) (ok : Bool) (count : ℕ) (items : List ℕ) : Type 0 where
-  pub meant : Meant ok (take count items) (Listed text)
-  pub kept : ok ≡ true → Holds (take count items) count items
+pub record ReadsNumbers (text : List ℕ) (ok : Bool) (count : ℕ) (items : List ℕ) : Type 0 where
+  pub meant : Meant ok (take count items) (FewNumbers text)
+  pub kept : ok ≡ true → HoldsNumbers (take count items) count items
 
 pub record Stands (key text : List ℕ) (at from to : ℕ) : Type 0 where
   pub ordered : from ≤ to
@@ -69,5 +69,5 @@ pub record Takes {A : Type 0} (key : List ℕ) (Value : List ℕ → A → Type 
   pub fails : ok ≡ false → (y : A) → Line key (λ v. Value v y) Any (drop at text) → ⊥
 
 pub record TakesList (key text : List ℕ) (at : ℕ) (ok : Bool) (count : ℕ) (items : List ℕ) (next : ℕ) : Type 0 where
-  pub takes : Takes key Listed text at ok (take count items) next
-  pub kept : ok ≡ true → Holds (take count items) count items
+  pub takes : Takes key FewNumbers text at ok (take count items) next
+  pub kept : ok ≡ true → HoldsNumbers (take count items) count items

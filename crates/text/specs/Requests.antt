@@ -2,7 +2,7 @@
 --   written text i           the number that the first i bytes write, decimal digits
 --   Number text n            one to three digits, leading zeros allowed, that write n; n is at most 255
 --   Numbers text ns          numbers with commas between them, one at least
---   Listed text ns           the same, at most 31 of them
+--   FewNumbers text ns       the same, at most 31 of them
 --   Optional other text n    a number, or nothing, which means `other`
 --   Line key Value Rest text   a line of this key with a value of Value, and then a text of Rest
 --   Lines forms text         a line of each form, in their order, and nothing more
@@ -37,7 +37,7 @@ pub data Numbers : List ℕ → List ℕ → Type 0 where
 abbrev pub most : ℕ
 most = 31
 
-pub record Listed (text ns : List ℕ) : Type 0 where
+pub record FewNumbers (text ns : List ℕ) : Type 0 where
   pub numbers : Numbers text ns
   pub few : length ns ≤ most
 
@@ -76,8 +76,8 @@ lines r =
     record { key = bytes "m="; Value = λ v. Optional 1 v (r .m) } ∷
     record { key = bytes "l="; Value = λ v. Optional (r .m) v (r .l) } ∷
     record { key = bytes "t="; Value = λ v. Number v (r .t) } ∷
-    record { key = bytes "points="; Value = λ v. Listed v (r .points) } ∷
-    record { key = bytes "word="; Value = λ v. Listed v (r .word) } ∷
+    record { key = bytes "points="; Value = λ v. FewNumbers v (r .points) } ∷
+    record { key = bytes "word="; Value = λ v. FewNumbers v (r .word) } ∷
     []
 
 abbrev pub Readable : List ℕ → Meaning → Type 0

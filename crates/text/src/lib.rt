@@ -1,7 +1,7 @@
 // The program's text: a request is read from seven lines, and an answer is written as lines, both in lent bytes.
 ghost use mathlib.Core.Path.{_≡_};
 ghost use Rattle.text.specs.Requests.{HasRead, unread};
-ghost use Rattle.text.specs.Answers.{outcome, HasWritten};
+ghost use Rattle.text.specs.Answers.{reply, HasWritten};
 
 mod reading; // reading.rt: keys, numbers and lines in a text
 mod writing; // writing.rt: numbers and lines put into a buffer
@@ -100,7 +100,7 @@ pub fn write(
     messages: &[u8],
     out: &mut [u8],
 ) -> usize
-    ensures { λ r. ⌜ HasWritten (outcome number updates weight count k (now (messages .entry))) (now (out .entry)) (now (out .exit)) r ⌝ }
+    ensures { λ r. ⌜ HasWritten (reply number updates weight count k (now (messages .entry))) (now (out .entry)) (now (out .exit)) r ⌝ }
 {
     let lines = count as usize;
     let symbols = k as usize;

@@ -3,7 +3,7 @@ use super::MOST;
 ghost use Prim.Native.Nat.{_≤_};
 ghost use lib.ListN.{length};
 ghost use Rattle.text.specs.Requests.{Number, Optional};
-ghost use Rattle.text.specs.Reading.{Seeks, Begins, Meant, Lists, Found, Takes, TakesList};
+ghost use Rattle.text.specs.Reading.{Seeks, Begins, Meant, ReadsNumbers, Found, Takes, TakesList};
 
 // Where a line's value stands: from `from` up to the line feed at `to`.
 pub struct Span {
@@ -146,7 +146,7 @@ fn optional(text: &[u8], other: u8) -> Value
 
 // Numbers with commas between them, at most MOST.
 fn numbers(text: &[u8]) -> Values
-    ensures { λ r. ⌜ Lists (now (text .entry)) (r .ok) (r .count) (r .items) ⌝ }
+    ensures { λ r. ⌜ ReadsNumbers (now (text .entry)) (r .ok) (r .count) (r .items) ⌝ }
 {
     let mut items = [0u8; MOST];
     let mut count: usize = 0;

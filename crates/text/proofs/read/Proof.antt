@@ -9,7 +9,7 @@ use borrow.Author.Tests.{not-true, not-false}
 use borrow.Author.Needs.{needs}
 use lib.ListN.{length, take, drop, length-drop, drop-of-length-le}
 use Rattle.text.specs.Lines.{bytes}
-use Rattle.text.specs.Requests.{Number, Optional, Listed, Line, Lines, Meaning, lines, Readable, HasRead}
+use Rattle.text.specs.Requests.{Number, Optional, FewNumbers, Line, Lines, Meaning, lines, Readable, HasRead}
 use Rattle.text.specs.Requests.HasRead.{readable, unreadable}
 use Rattle.text.specs.Reading.{Taken}
 use Rattle.text.proofs.Grammar.{number-plain, optional-plain, listed-plain, line-map}
@@ -113,7 +113,7 @@ points-next c = c .before .before .numbers-line .result .next
 abbrev points-value : tie.Else6 → List ℕ
 points-value c = take (c .before .before .numbers-line .result .count) (c .before .before .numbers-line .result .items)
 
-points-taken : (c : tie.Else6) → Taken (bytes "points=") Listed (text₆ c) (t-next (c .before .before .before .before)) (points-value c) (points-next c)
+points-taken : (c : tie.Else6) → Taken (bytes "points=") FewNumbers (text₆ c) (t-next (c .before .before .before .before)) (points-value c) (points-next c)
 points-taken c = c .before .before .numbers-line .ensures .takes .holds (not-false _ (c .if6 .left))
 
 points-goes : (c : tie.Else6) → Goes (text₆ c) 6 (points-next c)
@@ -125,7 +125,7 @@ word-next c = c .before .before .numbers-line2 .result .next
 abbrev word-value : tie.Else7 → List ℕ
 word-value c = take (c .before .before .numbers-line2 .result .count) (c .before .before .numbers-line2 .result .items)
 
-word-taken : (c : tie.Else7) → Taken (bytes "word=") Listed (text₇ c) (points-next (c .before .before .before .before)) (word-value c) (word-next c)
+word-taken : (c : tie.Else7) → Taken (bytes "word=") FewNumbers (text₇ c) (points-next (c .before .before .before .before)) (word-value c) (word-next c)
 word-taken c = c .before .before .numbers-line2 .ensures .takes .holds (not-false _ (c .if7 .left))
 
 word-goes : (c : tie.Else7) → Goes (text₇ c) 7 (word-next c)

@@ -4,15 +4,15 @@ use Prim.Native.Nat.{_*_, _≤_}
 use native.Mathlib.Nat.{mul-le-mul}
 use native.Mathlib.Omega.{arith}
 use borrow.Author.Needs.{needs}
-use Rattle.text.specs.Answers.{Outcome, outcome, details}
+use Rattle.text.specs.Answers.{Reply, reply, details}
 use Rattle.text.specs.Answers.HasWritten.{refused}
 use Rattle.text.proofs.Puts.{put-join}
 use Rattle.text.proofs.Answers.{first-alone, all-lines, has-written}
 use Rattle.text.proofs.write.Statement.{statement}
 use Rattle.text.proofs.write.Tie as tie
 
-abbrev printed : tie.Start → Outcome
-printed c = outcome (c .args .number) (c .args .updates) (c .args .weight) (c .args .count) (c .args .k) (c .args .messages .now)
+abbrev printed : tie.Start → Reply
+printed c = reply (c .args .number) (c .args .updates) (c .args .weight) (c .args .count) (c .args .k) (c .args .messages .now)
 
 -- a product of bytes
 low : (c : tie.Start) → c .args .count * c .args .k ≤ 65025

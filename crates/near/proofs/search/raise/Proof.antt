@@ -3,13 +3,13 @@ use mathlib.Core.Path.{_≡_}
 use Prim.Native.Nat.{_-_, _≤_}
 use native.Mathlib.Numerals.{add-one}
 use borrow.Author.Needs.{needs}
-use Rattle.near.specs.Work.{Raised}
+use Rattle.near.specs.Work.{Lifted}
 use Rattle.near.proofs.Shifting.{raised-none, raised-more}
 use Rattle.near.proofs.search.raise.Statement.{statement}
 use Rattle.near.proofs.search.raise.Tie as tie
 
 abbrev Inv-loop : tie.InvT-loop
-Inv-loop curve₀ plan i c j q₀ curve q = (j ≤ q) × (q ≤ plan .l) × Raised plan i (c .value) j q curve₀ curve
+Inv-loop curve₀ plan i c j q₀ curve q = (j ≤ q) × (q ≤ plan .l) × Lifted plan i (c .value) j q curve₀ curve
 
 abbrev μ-loop : tie.MeasureT-loop
 μ-loop curve₀ plan i c j q₀ curve q = plan .l - q
