@@ -8,3 +8,4 @@ pub mod SymbolLaws
 pub mod OperationLaws
 pub mod ReciprocalLaws
 pub mod KernelLaws
+pub mod Convolutions

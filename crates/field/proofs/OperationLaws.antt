@@ -43,6 +43,10 @@ module _ (p : ℕ) where
   unfolding minusBytes sumOf negativeOf
   minus-mod a {b} h = simp (byte-symbol, mod-add-mod, add-mod-mod, mod-eq-of-lt h)
 
+  -- a plus b times c, with one remainder
+  pub plus-times-mod : (a b c : ℕ) → plusBytes p a (timesBytes p b c) ≡ (a + b * c) % p
+  plus-times-mod a b c = rw (plus-mod, times-mod) (add-mod-mod a (b * c) p)
+
   -- a less c times b, with one remainder
   pub minus-times-mod : {c : ℕ} (a b : ℕ) → c < p → minusBytes p a (timesBytes p c b) ≡ (a + (p - c) * b) % p
   unfolding minusBytes

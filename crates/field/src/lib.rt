@@ -6,6 +6,9 @@ ghost use Rattle.field.specs.Operations.{Operand, Operands, plusBytes, m
 ghost use Rattle.field.specs.Kernels.{Subtracts, Scales, Reduces, subtracted, scaled};
 
 mod inverses; // inverses.rt: the table of inverses
+mod products; // products.rt: sums of products
+
+pub use products::convolve;
 
 pub fn is_listed(p: u8) -> bool
     ensures { λ r. ⌜ r ≡ listed p ⌝ }
@@ -59,6 +62,17 @@ impl Symbol {
         let x = self.value as u16 * other.value as u16;
         let y = x % (p as u16);
         Symbol { value: y as u8 }
+    }
+
+    // self plus x times y, with one division.
+    pub fn plus_product(self, x: Symbol, y: Symbol, p: u8) -> Symbol
+        requires { ⌜ Operand p (self .value) ⌝ }
+        requires { ⌜ Operands p (x .value) (y .value) ⌝ }
+        ensures { λ r. ⌜ r .value ≡ plusBytes p (self .value) (timesBytes p (x .value) (y .value)) ⌝ }
+    {
+        let z = self.value as u16 + x.value as u16 * y.value as u16;
+        let r = z % (p as u16);
+        Symbol { value: r as u8 }
     }
 
     // The inverse of 0 is given as 0.

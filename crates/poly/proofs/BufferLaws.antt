@@ -56,7 +56,7 @@ region-part {p} {at} by h r =
     record { within = omega arith; below = λ i k. let e : at + by + i ≡ at + (by + i) = omega arith in rw e (r .below (by + i) (omega arith)) }
 
 pub factors-part : {p : ℕ} {f : List ℕ} {at len : ℕ} (by : ℕ) {short : ℕ} {xs : List ℕ} → by + short ≤ len → Factors p f at len xs → Factors p f (at + by) short xs
-factors-part by h a = record { size = a .size; factor = a .factor; region = region-part by h (a .region) }
+factors-part by h a = record { size = a .size; factor = a .factor; short = omega (arith, a .short); region = region-part by h (a .region) }
 
 -- symbols' bytes in a region
 pub region-symbols : {p at len : ℕ} {xs ys : List ℕ} (f : Seq (symbols p .ring)) → Listed p → Region p at len xs → Kept at len xs ys

@@ -189,6 +189,7 @@ module _ {p : ℕ} {points word work : List ℕ} {s : ℕ} (P : Places p points 
         record {
           size = P .size;
           factor = factor;
+          short = omega arith;
           region =
               record {
                 within = let long = t .long in let same = length-subtracted p (excessOf p a b work) 0 32 work 32 in omega arith;

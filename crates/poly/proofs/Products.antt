@@ -3,16 +3,16 @@ use mathlib.Core.Path.{_≡_, refl, ap, _∙_}
 use mathlib.Core.Logic.{inl, inr, ⊎-elim}
 use mathlib.Core.List.{List}
 use Prim.Native.Nat.{ℕ, zero, suc, _+_, _-_, _*_, _%_, _≤_, _<_, min}
-use native.Mathlib.Numerals.{add-one}
 use native.Mathlib.Decide.{ℕ-discrete}
 use native.Mathlib.Omega.{arith}
 use lib.ListN.{length, getD, set, length-set, List·getD-eq-default}
 use lib.Seq.{getD-set-same, getD-set-other}
 use Rattle.field.specs.Field.{Ring, RingLaws, sum}
+use Rattle.field.specs.Kernels.{convolution}
 use Rattle.field.specs.Symbols.{Listed, Element, symbol, symbols, productOf, symbolsOf}
 use Rattle.field.proofs.RingLaws.{add-zero, zero-mul}
-use Rattle.field.proofs.Sums.{sum-split, sum-null}
-use Rattle.field.proofs.SymbolLaws.{symbol-plus, symbol-times, symbol-same, symbols-field}
+use Rattle.field.proofs.Sums.{sum-cong, sum-split, sum-null}
+use Rattle.field.proofs.SymbolLaws.{symbols-field}
 use Rattle.poly.specs.Polynomials.{Seq, tail, mulS}
 use Rattle.poly.specs.Buffers.{from, productFrom, Kept, Product}
 use Rattle.poly.proofs.Series.{mulS-zero, mulS-suc, mulS-sum}
@@ -23,38 +23,24 @@ product-low R f g h zero e = rw (mulS-zero R f g, mulS-zero R f h, e zero (omega
 product-low R f g h (suc n) e =
     rw (mulS-suc R f g n, mulS-suc R f h n, e (suc n) (omega arith), product-low R (tail R f) g h n (λ j l. e j (omega arith)))
 
--- the coefficient of x^e: the sum of its first i terms
-module _ (p : ℕ) (f : List ℕ) (xs : List ℕ) (at e : ℕ) where
-  abbrev pub term : ℕ → Element p
+-- the coefficient of x^e of the product is a convolution: its terms from the end of f on are zero
+module _ {p : ℕ} (l : Listed p) (f : List ℕ) (xs : List ℕ) (at e : ℕ) where
+  abbrev L : RingLaws (symbols p .ring)
+  L = symbols-field p l .ring
+
+  abbrev term : ℕ → Element p
   term i = productOf p (symbolsOf p f i) (from p xs at (e - i))
 
-  abbrev pub terms : ℕ → Element p
-  terms i = sum (symbols p .ring) i term
+  term-past : (i : ℕ) → length f ≤ i → term i ≡ symbol p 0
+  term-past i h = rw (List·getD-eq-default f 0 h) (zero-mul L (from p xs at (e - i)))
 
-  pub terms-none : symbol p 0 ≡ terms 0
-  unfolding sum
-  terms-none = refl
-
-  -- one product more, to any number that stands for the sum so far
-  pub terms-more : (i m n q : ℕ) → symbol p m ≡ terms i → n % p ≡ m % p → q ≡ getD f i 0 * getD xs (at + (e - i)) 0 → symbol p (n + q) ≡ terms (i + 1)
-  unfolding sum
-  terms-more i m n q is low product =
-      rw (add-one i, symbol-plus p n q, symbol-same p n m low, is, product, symbol-times p (getD f i 0) (getD xs (at + (e - i)) 0))
-
-  module _ (l : Listed p) where
-    L : RingLaws (symbols p .ring)
-    L = symbols-field p l .ring
-
-    -- from the end of f on they are zero
-    term-past : (i : ℕ) → length f ≤ i → term i ≡ symbol p 0
-    term-past i h = rw (List·getD-eq-default f 0 h) (zero-mul L (from p xs at (e - i)))
-
-    pub terms-all : {i : ℕ} → i ≡ min (length f) (e + 1) → terms i .byte ≡ productFrom p f xs at e .byte
-    terms-all {i} is =
-        let rest = suc e - i in
-        let h : suc e ≡ i + rest = omega arith in
-        let past : sum (symbols p .ring) rest (λ j. term (i + j)) ≡ symbol p 0 = sum-null L rest (λ j. term (i + j)) (λ j k. term-past (i + j) (omega arith)) in
-        rw (mulS-sum L (symbolsOf p f) (from p xs at) e, h, sum-split L i rest term, past, add-zero L (terms i))
+  pub product-convolution : {i : ℕ} → i ≡ min (length f) (e + 1) → convolution p (at + e) i f xs ≡ productFrom p f xs at e
+  product-convolution {i} is =
+      let rest = suc e - i in
+      let h : suc e ≡ i + rest = omega arith in
+      let past : sum (symbols p .ring) rest (λ j. term (i + j)) ≡ symbol p 0 = sum-null L rest (λ j. term (i + j)) (λ j k. term-past (i + j) (omega arith)) in
+      let same : convolution p (at + e) i f xs ≡ sum (symbols p .ring) i term = sum-cong L i (λ j. productOf p (symbolsOf p f j) (symbolsOf p xs (at + e - j))) term (λ j k. ap (λ q. productOf p (symbolsOf p f j) (symbolsOf p xs q)) (omega arith)) in
+      same ∙ rw (mulS-sum L (symbolsOf p f) (from p xs at) e, h, sum-split L i rest term, past, add-zero L (sum (symbols p .ring) i term))
 
 -- the coefficients from x^i on are in place, and the rest is as it was
 pub record Multiplied (p : ℕ) (f : List ℕ) (at len i : ℕ) (before after : List ℕ) : Type 0 where

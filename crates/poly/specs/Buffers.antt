@@ -4,7 +4,7 @@
 --   Coefficients p a xs     p is listed, and a and every byte of xs are below p
 --   Among xs count x        x is one of the first `count` bytes
 --   from p xs at            the x-polynomial whose coefficients stand from the byte `at` on
---   Factors p f at len xs   p is listed, and every byte of f and of the len bytes from `at` on is below p
+--   Factors p f at len xs   p is listed, and every byte of f and of the len bytes from `at` on is below p; len is within what a sum of products can hold
 --   productFrom p f xs at   f times that x-polynomial
 --   Kept at len xs ys       only the len bytes from `at` on may differ
 --   Product                 those bytes become the coefficients of the product, as far as they go
@@ -49,6 +49,7 @@ pub record Factors (p : ℕ) (f : List ℕ) (at len : ℕ) (xs : List ℕ) : Typ
   pub size : Listed p
   pub factor : AllBelow p f
   pub region : Region p at len xs
+  pub short : len ≤ 65536
 
 abbrev pub productFrom : (p : ℕ) → List ℕ → List ℕ → ℕ → Seq (symbols p .ring)
 productFrom p f xs at = mulS (symbols p .ring) (symbolsOf p f) (from p xs at)

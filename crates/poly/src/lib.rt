@@ -1,7 +1,6 @@
 // Polynomials in x in lent bytes, lowest power first, and the job encode.
 ghost use mathlib.Core.Path.{_≡_};
-ghost use Rattle.field.specs.Symbols.{Listed};
-ghost use Prim.Native.Nat.{_+_, _*_, _%_, _≤_, _<_, min};
+ghost use Prim.Native.Nat.{_+_, _≤_, min};
 ghost use lib.ListN.{length};
 ghost use Rattle.poly.specs.Table.{First, TooLarge, Repeated};
 ghost use Rattle.poly.specs.Encode.{Encoded, encodeTable, valueAt};
@@ -21,7 +20,7 @@ pub fn value_at(coefficients: &[u8], a: u8, p: u8) -> u8
         let c = Symbol {
             value: coefficients[i],
         };
-        sum = c.sum(x.product(sum, p), p);
+        sum = c.plus_product(x, sum, p);
     }
     sum.value
 }
@@ -127,36 +126,12 @@ fn least(a: usize, b: usize) -> usize
     if a < b { a } else { b }
 }
 
-fn wide_product(a: u8, b: u8) -> u32
-    ensures { λ r. ⌜ (r ≡ a * b) × (r < 65536) ⌝ }
-{
-    a as u32 * b as u32
-}
-
-// The same symbol by a number that leaves room for one more product: a sum is divided only when it has grown large.
-fn lowered(sum: u32, p: u8) -> u32
-    requires { ⌜ Listed p ⌝ }
-    ensures { λ r. ⌜ (r % p ≡ sum % p) × (r < 1000000) ⌝ }
-{
-    if sum < 1000000 {
-        return sum;
-    }
-    sum % p as u32
-}
-
 // The coefficient of x^e in f times the x-polynomial from `at` on.
 fn product_at(f: &[u8], xs: &[u8], at: usize, e: usize, p: u8) -> u8
     requires { ⌜ Factors p (now f) at (e + 1) (now xs) ⌝ }
     ensures { λ r. ⌜ r ≡ productFrom p (now (f .entry)) (now (xs .entry)) at e .byte ⌝ }
 {
-    let count = least(f.len(), e + 1);
-    let mut sum = 0u32;
-    let mut i = 0;
-    while i < count {
-        sum = lowered(sum, p) + wide_product(f[i], xs[at + (e - i)]);
-        i += 1;
-    }
-    (sum % p as u32) as u8
+    field::convolve(f, xs, at + e, least(f.len(), e + 1), p)
 }
 
 // The x-polynomial in the `len` bytes from `at` on, times f, as far as the bytes go.

@@ -23,7 +23,7 @@ use Rattle.rows.specs.Bytes.{slot, curveBytes, place}
 use Rattle.rows.specs.Filling.{Power, slotsAt, Raised, HoldsRow, FillsLow, FilledLow}
 use Rattle.rows.specs.declared.Shape.{Shape}
 use Rattle.rows.proofs.Filling.{lowRow, lowRow-zero, lowRow-suc, lowRow-height, raised-low, raised-height, startRow-low}
-use Rattle.rows.proofs.Places.{slot-end, row-end, block-end, slot-inside, InCurve, in-curve}
+use Rattle.rows.proofs.Places.{curve-small, slot-end, row-end, block-end, slot-inside, InCurve, in-curve}
 
 pub slot-fits : (S : Shape) → slot S ≤ curveBytes S
 slot-fits S = let w = slot-end S {j = zero} (omega arith) in omega arith
@@ -79,7 +79,7 @@ module _ {S : Shape} {i m : ℕ} {h e xs : List ℕ} (a : FillsLow S i m h e xs)
   one-factors =
       let w = slot-fits S in
       let v = length-set xs base 1 in
-      record { size = a .fine .size; factor = a .below-e; region = record { within = omega (arith, row-inside); below = below } }
+      record { size = a .fine .size; factor = a .below-e; short = omega (arith, a .fine .wide); region = record { within = omega (arith, row-inside); below = below } }
     where
       below : (q : ℕ) → q < slot S → getD one (base + q) 0 < p
       below zero k = rw (add-zero, one-first) (omega (arith, a .fine .size))
@@ -116,6 +116,7 @@ module _ {S : Shape} {i m : ℕ} {h e xs : List ℕ} (a : FillsLow S i m h e xs)
         record {
           size = a .fine .size;
           factor = a .below-h;
+          short = omega (arith, curve-small (a .fine));
           region = record { within = omega (arith, row-inside); below = λ d o. below d (in-curve S (omega arith)) };
         }
       where

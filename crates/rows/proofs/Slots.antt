@@ -52,7 +52,7 @@ module _ {p : ℕ} (l : Listed p) where
 
     module _ {i : ℕ} {ys : List ℕ} (b : Power p f i at len xs ys) where
       pub power-factors : Factors p f at len ys
-      power-factors = record { size = l; factor = a .factor; region = region-symbols (power i) l (a .region) (b .kept) (b .power) }
+      power-factors = record { size = l; factor = a .factor; short = a .short; region = region-symbols (power i) l (a .region) (b .kept) (b .power) }
 
       pub power-more : {zs : List ℕ} → Product p f at len ys zs → Power p f (i + 1) at len xs zs
       power-more c = record { kept = kept-then (b .kept) (c .kept); power = λ e h. c .product e h ∙ ap (λ (x : Element p). x .byte) (more e h) }
@@ -157,6 +157,7 @@ module _ {p : ℕ} {h : List ℕ} {base slot slots : ℕ} where
         record {
           size = a .size;
           factor = a .factor;
+          short = omega (arith, a .short, top);
           region = record { within = omega (arith, top); below = λ i k. rw (r .same (base + i) (omega arith)) (a .region .below i (omega (arith, top))) };
         }
 

@@ -27,6 +27,7 @@ product-at-requires c κs =
     record {
       size = r .size;
       factor = r .factor;
+      short = let s = r .short in search needs;
       region =
           record {
             within = let long = m .kept .long in omega (arith, r .region .within);

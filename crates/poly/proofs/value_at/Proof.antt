@@ -1,11 +1,10 @@
--- `value_at` meets its contract: the sum is the value of the coefficients from i on. Assumes nothing.
+-- `value_at` meets its contract: the sum is the value of the coefficients from i on.
 use mathlib.Core.Path.{_≡_, refl, sym, _∙_}
-use Prim.Native.Nat.{_≤_, _-_}
+use Prim.Native.Nat.{_≤_, _<_, _-_}
 use lib.ListN.{length}
 use borrow.Author.Needs.{needs}
-use Rattle.field.proofs.SymbolLaws.{byte-below}
-use Rattle.field.proofs.OperationLaws.{timesBytes-below}
 use Rattle.field.specs.Symbols.{symbolsOf}
+use Rattle.field.proofs.SymbolLaws.{byte-below}
 use Rattle.poly.proofs.BufferLaws.{horner, horner-none, horner-more, horner-all}
 use Rattle.poly.proofs.value_at.Statement.{statement}
 use Rattle.poly.proofs.value_at.Tie as tie
@@ -27,30 +26,21 @@ sub-i c = search needs
 shared-slice-read-t10 : tie.Need-shared-slice-read-t10 Inv-loop μ-loop
 shared-slice-read-t10 c = search needs
 
-product-requires : tie.Need-product-requires Inv-loop μ-loop
-product-requires c κs =
+plus-product-requires : tie.Need-plus-product-requires Inv-loop μ-loop
+plus-product-requires c κs =
     let l = c .before .before in
     let s = l .before .before in
-    record { size = s .pre .size; left = s .pre .point; right = rw (l .loop .inv .1) (byte-below (s .pre .size) (horner (s .args .p) (s .args .a) (length (s .args .coefficients .now)) (symbolsOf (s .args .p) (s .args .coefficients .now)) (l .loop .i))) }
-
-sum-requires : tie.Need-sum-requires Inv-loop μ-loop
-sum-requires c κs =
-    let l = c .before .before .before in
-    let s = l .before .before in
-    record {
-      size = s .pre .size;
-      left = s .pre .below (l .loop .i - 1) (search needs);
-      right = rw (c .product .ensures) (timesBytes-below (s .pre .size) (s .args .a) (l .loop .sum .value));
-    }
+    let x : l .loop .sum .value < s .args .p = rw (l .loop .inv .1) (byte-below (s .pre .size) (horner (s .args .p) (s .args .a) (length (s .args .coefficients .now)) (symbolsOf (s .args .p) (s .args .coefficients .now)) (l .loop .i))) in
+    (record { size = s .pre .size; below = s .pre .below (l .loop .i - 1) (search needs) }, record { size = s .pre .size; left = s .pre .point; right = x })
 
 loop-less : tie.Need-loop-less Inv-loop μ-loop
 loop-less c = search needs
 
 loop-again : tie.Need-loop-again Inv-loop μ-loop
 loop-again c =
-    let l = c .before .before .before .before in
+    let l = c .before .before .before in
     let s = l .before .before .args in
-    (search needs, c .sum .ensures ∙ rw (c .before .product .ensures, l .loop .inv .1) (horner-more (s .p) (s .a) (length (s .coefficients .now)) (symbolsOf (s .p) (s .coefficients .now)) _ (l .loop .i) (search needs) (search needs) refl))
+    (search needs, c .plus-product .ensures ∙ rw (l .loop .inv .1) (horner-more (s .p) (s .a) (length (s .coefficients .now)) (symbolsOf (s .p) (s .coefficients .now)) _ (l .loop .i) (search needs) (search needs) refl))
 
 returns : tie.Need-returns Inv-loop μ-loop
 returns c =
@@ -67,8 +57,7 @@ value-at-spec =
     loop-holds
     sub-i
     shared-slice-read-t10
-    product-requires
-    sum-requires
+    plus-product-requires
     loop-less
     loop-again
     returns)
