@@ -2,6 +2,7 @@
 //! in the document's order and hands back the first refusal.
 
 use crate::field::Field;
+use crate::request::Request;
 use crate::setting::{Note, Setting};
 
 pub const DONE: u8 = 0;
@@ -74,16 +75,16 @@ pub fn room(lent: &[u8], needed: usize) -> Check {
 }
 
 /// Numbers 1 to 7, which start and list have in common.
-pub fn request(p: u8, points: &[u8], word: &[u8], k: u8, m: u8, l: u8) -> Result<Setting, Refusal> {
-    let n = points.len();
-    let field = field(p)?;
-    point_count(n, p)?;
-    require(word.len() == n, Refusal::WordLength)?;
-    message_length(usize::from(k), n)?;
-    heights(m, l)?;
-    symbols(p, points, word)?;
-    points_differ(points)?;
-    Ok(setting(field, n, k, m, l))
+pub fn request(request: &Request) -> Result<Setting, Refusal> {
+    let n = request.points.len();
+    field(request.p)?;
+    point_count(n, request.p)?;
+    require(request.word.len() == n, Refusal::WordLength)?;
+    message_length(usize::from(request.k), n)?;
+    heights(request.m, request.l)?;
+    symbols(request.p, &request.points, &request.word)?;
+    points_differ(&request.points)?;
+    Ok(request.setting())
 }
 
 /// Number 10: any of 1, 2, 4 and 5 that would apply to the note, or a row number out of range.
@@ -94,20 +95,16 @@ pub fn note(note: Note) -> Result<Setting, Refusal> {
         point_count(n, note.p)?;
         message_length(usize::from(note.k), n)?;
         heights(note.m, note.l)?;
-        Ok(setting(field, n, note.k, note.m, note.l))
+        Ok(Setting {
+            field,
+            n,
+            k: usize::from(note.k),
+            m: usize::from(note.m),
+            l: usize::from(note.l),
+        })
     };
     let setting = numbers().map_err(|_: Refusal| Refusal::Note)?;
     let r = usize::from(note.r);
     require((1..=setting.l + 1).contains(&r), Refusal::Note)?;
     Ok(setting)
-}
-
-fn setting(field: Field, n: usize, k: u8, m: u8, l: u8) -> Setting {
-    Setting {
-        field,
-        n,
-        k: usize::from(k),
-        m: usize::from(m),
-        l: usize::from(l),
-    }
 }

@@ -3,41 +3,24 @@
 use crate::checks::{self, require, Refusal, DONE};
 use crate::curve::Curve;
 use crate::poly::symbols;
+use crate::request::Request;
 use crate::rows::{as_a_turn_leaves, smallest, starting_rows, take_turn};
 use crate::setting::{Note, Setting};
 use crate::slots::{read_rows, write_curve, write_rows};
 
 /// Starts an interpolation; hands back the number and the note.
-pub fn start(
-    p: u8,
-    points: &[u8],
-    word: &[u8],
-    k: u8,
-    m: u8,
-    l: u8,
-    rows: &mut [u8],
-) -> (u8, Note) {
-    let checked = checks::request(p, points, word, k, m, l).and_then(|setting| {
+pub fn start(request: &Request, rows: &mut [u8]) -> (u8, Note) {
+    let checked = checks::request(request).and_then(|setting| {
         checks::room(rows, setting.rows_room())?;
         Ok(setting)
     });
     match checked {
         Err(refusal) => (refusal.number(), Note::default()),
         Ok(setting) => {
-            let started = starting_rows(&setting, &symbols(points), &symbols(word));
+            let started =
+                starting_rows(&setting, &symbols(&request.points), &symbols(&request.word));
             write_rows(&setting, &started, rows);
-            let n = points.len() as u8;
-            (
-                DONE,
-                Note {
-                    p,
-                    n,
-                    k,
-                    m,
-                    l,
-                    r: 1,
-                },
-            )
+            (DONE, Note::first(request))
         }
     }
 }

@@ -4,26 +4,19 @@ use crate::checks::{self, require, Refusal, DONE};
 use crate::curve::{Curve, Term};
 use crate::field::Field;
 use crate::poly::{symbols, value, Poly};
+use crate::request::Request;
 use crate::rows::{smallest, starting_rows, take_turn};
 use crate::setting::Setting;
 
 /// Bytes of working room the job asks for. This program has no use for them but to leave them zero.
 pub const WORKING_ROOM: usize = 32_768;
 
-/// Lists the near messages; hands back the number, the count, the updates made and the curve's weight.
-#[allow(clippy::too_many_arguments)]
-pub fn list(
-    p: u8,
-    points: &[u8],
-    word: &[u8],
-    k: u8,
-    m: u8,
-    l: u8,
-    t: u8,
-    room: &mut [u8],
-    messages: &mut [u8],
-) -> (u8, u8, u32, u8) {
-    let checked = checks::request(p, points, word, k, m, l).and_then(|setting| {
+/// The number, the count, the updates made and the curve's weight.
+pub type Listed = (u8, u8, u32, u8);
+
+/// Lists the near messages.
+pub fn list(request: &Request, t: u8, room: &mut [u8], messages: &mut [u8]) -> Listed {
+    let checked = checks::request(request).and_then(|setting| {
         require(t >= 1 && usize::from(t) <= setting.n, Refusal::Agreements)?;
         checks::room(room, WORKING_ROOM)?;
         checks::room(messages, setting.messages_room())?;
@@ -31,7 +24,8 @@ pub fn list(
     });
     let answer = checked.and_then(|setting| {
         room[..WORKING_ROOM].fill(0);
-        near(&setting, &symbols(points), &symbols(word), usize::from(t))
+        let (points, word) = (symbols(&request.points), symbols(&request.word));
+        near(&setting, &points, &word, usize::from(t))
     });
     match answer {
         Err(refusal) => (refusal.number(), 0, 0, 0),

@@ -1,35 +1,13 @@
-//! Random requests that no job refuses, for the tests and for the vectors.
+//! Random requests that no job refuses, and rows that turn accepts, for the tests and for the cases.
 
 use crate::curve::{Curve, Term};
 use crate::encode;
 use crate::field::{Field, FIELDS};
+use crate::poly::{self, value};
 use crate::random::Random;
-use crate::setting::Setting;
+use crate::request::Request;
+use crate::setting::{Note, Setting};
 use crate::slots::write_rows;
-
-/// What start needs.
-#[derive(Clone, PartialEq, Eq, Debug)]
-pub struct Request {
-    pub p: u8,
-    pub points: Vec<u8>,
-    pub word: Vec<u8>,
-    pub k: u8,
-    pub m: u8,
-    pub l: u8,
-}
-
-impl Request {
-    /// The setting of a request within the ranges.
-    pub fn setting(&self) -> Setting {
-        Setting {
-            field: Field::of_size(self.p).expect("p is in the list"),
-            n: self.points.len(),
-            k: usize::from(self.k),
-            m: usize::from(self.m),
-            l: usize::from(self.l),
-        }
-    }
-}
 
 /// Any field, any number of points, any k, m and l.
 pub fn request(random: &mut Random) -> Request {
@@ -68,10 +46,11 @@ fn points(random: &mut Random, p: u8, n: usize) -> Vec<u8> {
 
 fn word(random: &mut Random, p: u8, points: &[u8], k: usize) -> Vec<u8> {
     let n = points.len();
-    match random.below(5) {
+    match random.below(6) {
         0 => symbols(random, p, n),
         1 => vec![random.below(usize::from(p)) as u8; n],
-        2 => between_two_messages(random, p, points, k),
+        2 => between_messages(random, p, points, k),
+        3 => beside_a_message(random, p, points, k),
         _ => near_a_message(random, p, points, k),
     }
 }
@@ -99,12 +78,45 @@ fn near_a_message(random: &mut Random, p: u8, points: &[u8], k: usize) -> Vec<u8
     word
 }
 
-/// Each symbol from one of two messages, so that lists of two come up.
-fn between_two_messages(random: &mut Random, p: u8, points: &[u8], k: usize) -> Vec<u8> {
-    let one = encoded_message(random, p, points, k);
-    let other = encoded_message(random, p, points, k);
-    let places = one.iter().zip(&other);
-    places.map(|(&a, &b)| random.pick(&[a, b])).collect()
+/// Each symbol from one of two or more messages, so that lists of two and more come up.
+fn between_messages(random: &mut Random, p: u8, points: &[u8], k: usize) -> Vec<u8> {
+    let words: Vec<Vec<u8>> = (0..random.pick(&[2, 2, 3, 4, 6]))
+        .map(|_| encoded_message(random, p, points, k))
+        .collect();
+    let places = 0..points.len();
+    places
+        .map(|place| words[random.below(words.len())][place])
+        .collect()
+}
+
+/// Any six bytes, most of them so small that the note is sometimes accepted.
+pub fn any_note(random: &mut Random) -> Note {
+    let mut byte = |small: usize| {
+        if random.once_in(8) {
+            random.byte()
+        } else {
+            random.between(0, small) as u8
+        }
+    };
+    Note {
+        p: byte(7),
+        n: byte(7),
+        k: byte(4),
+        m: byte(4),
+        l: byte(8),
+        r: byte(9),
+    }
+}
+
+/// A message and one term of higher degree: many messages agree with such a word, and lists are long.
+fn beside_a_message(random: &mut Random, p: u8, points: &[u8], k: usize) -> Vec<u8> {
+    let mut longer = symbols(random, p, k);
+    longer.resize(random.between(k, (k + 3).min(points.len() - 1)), 0);
+    longer.push(random.between(1, usize::from(p) - 1) as u8);
+    let field = Field::of_size(p).expect("p is in the list");
+    let longer = poly::symbols(&longer);
+    let values = points.iter().map(|&a| value(field, &longer, a.into()));
+    values.map(|symbol| symbol as u8).collect()
 }
 
 /// Random rows that number 11 does not refuse at entry, although no start ever leads to them.
@@ -156,7 +168,7 @@ fn led_by(random: &mut Random, setting: &Setting, lead: Term, height: usize) -> 
 }
 
 /// A nonzero combination of rows, each taken with one power of x, that weighs at most W.
-fn combination(random: &mut Random, setting: &Setting, rows: &[Curve]) -> Curve {
+pub fn combination(random: &mut Random, setting: &Setting, rows: &[Curve]) -> Curve {
     let (field, greatest) = (setting.field, setting.greatest_weight());
     let p = field.symbols().end as usize;
     let multiple = |random: &mut Random, row: &Curve| {

@@ -1,6 +1,7 @@
 //! A setting is the numbers that an interpolation lives with; a note is what a driver holds of them.
 
 use crate::field::Field;
+use crate::request::Request;
 
 /// Numbers within document 01's ranges; the jobs make one only after checking them.
 #[derive(Clone, Copy, PartialEq, Eq, Debug)]
@@ -59,6 +60,20 @@ pub struct Note {
     pub l: u8,
     /// The current row.
     pub r: u8,
+}
+
+impl Note {
+    /// The note of a start that was not refused.
+    pub fn first(request: &Request) -> Note {
+        Note {
+            p: request.p,
+            n: request.points.len() as u8,
+            k: request.k,
+            m: request.m,
+            l: request.l,
+            r: 1,
+        }
+    }
 }
 
 #[cfg(test)]

@@ -2,6 +2,7 @@
 
 use crate::checks::{require, Refusal, DONE};
 use crate::list::{list, WORKING_ROOM};
+use crate::request::Request;
 
 const KEYS: [&[u8]; 7] = [b"field=", b"k=", b"m=", b"l=", b"t=", b"points=", b"word="];
 const MOST_NUMBERS: usize = 31;
@@ -11,21 +12,12 @@ const MOST_DIGITS: usize = 3;
 pub fn listing(input: &[u8]) -> Vec<u8> {
     match read(input) {
         Err(refusal) => answer_line(refusal.number()).into_bytes(),
-        Ok(request) => answer(&request).into_bytes(),
+        Ok((request, t)) => answer(&request, t).into_bytes(),
     }
 }
 
-struct Request {
-    p: u8,
-    k: u8,
-    m: u8,
-    l: u8,
-    t: u8,
-    points: Vec<u8>,
-    word: Vec<u8>,
-}
-
-fn read(input: &[u8]) -> Result<Request, Refusal> {
+/// The request and t.
+fn read(input: &[u8]) -> Result<(Request, u8), Refusal> {
     let lines: Vec<&[u8]> = input.split(|&byte| byte == b'\n').collect();
     // Seven line feeds and nothing after the last make eight pieces, the last empty.
     let [seven @ .., rest] = lines.as_slice() else {
@@ -34,15 +26,16 @@ fn read(input: &[u8]) -> Result<Request, Refusal> {
     require(seven.len() == KEYS.len() && rest.is_empty(), Refusal::Lines)?;
     let value = |place: usize| seven[place].strip_prefix(KEYS[place]).ok_or(Refusal::Lines);
     let m = number_or(value(2)?, 1)?;
-    Ok(Request {
+    let t = number(value(4)?)?;
+    let request = Request {
         p: number(value(0)?)?,
+        points: numbers(value(5)?)?,
+        word: numbers(value(6)?)?,
         k: number(value(1)?)?,
         m,
         l: number_or(value(3)?, m)?,
-        t: number(value(4)?)?,
-        points: numbers(value(5)?)?,
-        word: numbers(value(6)?)?,
-    })
+    };
+    Ok((request, t))
 }
 
 fn number(digits: &[u8]) -> Result<u8, Refusal> {
@@ -74,20 +67,10 @@ fn answer_line(number: u8) -> String {
     format!("answer={number}\n")
 }
 
-fn answer(request: &Request) -> String {
+fn answer(request: &Request, t: u8) -> String {
     let mut room = vec![0; WORKING_ROOM];
     let mut messages = vec![0; usize::from(request.l) * usize::from(request.k)];
-    let (number, count, updates, weight) = list(
-        request.p,
-        &request.points,
-        &request.word,
-        request.k,
-        request.m,
-        request.l,
-        request.t,
-        &mut room,
-        &mut messages,
-    );
+    let (number, count, updates, weight) = list(request, t, &mut room, &mut messages);
     let mut text = answer_line(number);
     if number == DONE {
         text += &format!("updates={updates}\nweight={weight}\ncount={count}\n");

@@ -6,7 +6,8 @@ use common::{has_multiplicity, in_the_set, interpolated, smallest_by_algebra};
 use second::curve::{Curve, Term};
 use second::field::{Field, FIELDS};
 use second::random::Random;
-use second::sample::{request, with_numbers, Request};
+use second::sample::{request, with_numbers};
+use second::Request;
 
 fn assert_smallest(request: &Request) {
     let found = interpolated(request);

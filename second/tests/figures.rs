@@ -4,8 +4,7 @@ mod common;
 
 use common::{interpolated, started, Interpolated};
 use second::curve::{Curve, Term};
-use second::sample::Request;
-use second::{encode, list, listing, start, turn, Note, Setting, WORKING_ROOM};
+use second::{encode, list, listing, start, turn, Note, Request, Setting, WORKING_ROOM};
 
 const FIRST_SIX: [u8; 6] = [1, 2, 3, 4, 5, 6];
 const WORD_19: [u8; 6] = [6, 2, 4, 4, 4, 2];
@@ -37,10 +36,10 @@ fn curve(setting: &Setting, polys: &[&[i64]]) -> Curve {
     Curve::gather(setting.field, terms)
 }
 
-fn number_of_list(p: u8, points: &[u8], word: &[u8], k: u8, m: u8, l: u8, t: u8) -> u8 {
+fn number_of_list(request: &Request, t: u8) -> u8 {
     let mut room = vec![1; WORKING_ROOM];
     let mut messages = vec![1; 256];
-    list(p, points, word, k, m, l, t, &mut room, &mut messages).0
+    list(request, t, &mut room, &mut messages).0
 }
 
 #[test]
@@ -77,10 +76,7 @@ fn the_word_0_0_1_is_answered_by_row_0() {
     assert_eq!(interpolated(&case), expected);
 
     let (mut room, mut messages) = (vec![1; WORKING_ROOM], [1; 2]);
-    let mut near = |t| {
-        let word = &case.word;
-        list(7, &case.points, word, 2, 1, 1, t, &mut room, &mut messages)
-    };
+    let mut near = |t| list(&case, t, &mut room, &mut messages);
     assert_eq!(near(3), (0, 0, 1, 2));
     assert_eq!(near(2), (13, 0, 0, 0));
 }
@@ -169,28 +165,18 @@ fn the_rows_of_example_19_end_as_the_paper_prints_them() {
 #[test]
 fn the_list_of_example_19() {
     let (mut room, mut messages) = (vec![1; WORKING_ROOM], [99; 9]);
-    let (number, count, _, weight) = list(
-        7,
-        &FIRST_SIX,
-        &WORD_19,
-        3,
-        2,
-        3,
-        4,
-        &mut room,
-        &mut messages,
-    );
+    let (number, count, _, weight) = list(&example_19(), 4, &mut room, &mut messages);
     assert_eq!((number, count, weight), (0, 2, 7));
     assert_eq!(messages, [1, 3, 4, 5, 2, 6, 99, 99, 99]);
     assert!(room.iter().all(|&byte| byte == 0));
-    assert_eq!(number_of_list(7, &FIRST_SIX, &WORD_19, 3, 2, 3, 3), 13);
+    assert_eq!(number_of_list(&example_19(), 3), 13);
 }
 
 #[test]
 fn the_rows_of_example_19_take_240_bytes() {
     let number = |length| {
         let mut rows = vec![0; length];
-        start(7, &FIRST_SIX, &WORD_19, 3, 2, 3, &mut rows)
+        start(&example_19(), &mut rows)
     };
     assert_eq!(number(240).0, 0);
     assert_eq!(number(239), (9, Note::default()));
@@ -198,11 +184,11 @@ fn the_rows_of_example_19_take_240_bytes() {
 
 #[test]
 fn refusals_of_the_figures() {
-    let points: Vec<u8> = (1..=6).collect();
-    let word = WORD_19;
-    let two = number_of_list(7, &points[..2], &word[..2], 3, 2, 3, 4);
-    assert_eq!(two, 2);
-    let numbers = |p, k, m, l, t| number_of_list(p, &points, &word, k, m, l, t);
+    assert_eq!(number_of_list(&request(&WORD_19[..2], 3, 2, 3), 4), 2);
+    let numbers = |p, k, m, l, t| {
+        let example = request(&WORD_19, k, m, l);
+        number_of_list(&Request { p, ..example }, t)
+    };
     assert_eq!(numbers(9, 3, 2, 3, 4), 1);
     assert_eq!(numbers(33, 3, 2, 3, 4), 1);
     assert_eq!(numbers(2, 3, 2, 3, 4), 1);
@@ -214,7 +200,7 @@ fn refusals_of_the_figures() {
     assert_eq!(numbers(7, 3, 2, 1, 4), 5);
     assert_eq!(numbers(7, 3, 2, 3, 0), 8);
     assert_eq!(numbers(7, 3, 2, 3, 7), 8);
-    let with = |symbol| number_of_list(7, &points, &[symbol, 2, 4, 4, 4, 2], 3, 2, 3, 4);
+    let with = |symbol| number_of_list(&request(&[symbol, 2, 4, 4, 4, 2], 3, 2, 3), 4);
     assert_eq!(with(6), 0);
     assert_eq!(with(7), 6);
 }

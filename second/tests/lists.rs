@@ -4,26 +4,19 @@ mod common;
 
 use common::{agreement, all_messages, interpolated};
 use second::random::Random;
-use second::sample::{request, with_numbers, Request};
-use second::{encode, list, roots, WORKING_ROOM};
+use second::sample::{request, with_numbers};
+use second::{encode, list, roots, Request, WORKING_ROOM};
 
 /// Number, count, updates and weight, and the messages listed.
 fn listed(request: &Request, t: u8) -> ((u8, u8, u32, u8), Vec<Vec<u8>>) {
-    let Request {
-        p,
-        points,
-        word,
-        k,
-        m,
-        l,
-    } = request;
     let (mut room, mut messages) = (vec![5; WORKING_ROOM + 1], vec![99; 255]);
-    let answer = list(*p, points, word, *k, *m, *l, t, &mut room, &mut messages);
+    let answer = list(request, t, &mut room, &mut messages);
     assert!(room[..WORKING_ROOM].iter().all(|&byte| byte == 0));
     assert_eq!(room[WORKING_ROOM], 5);
-    let (written, rest) = messages.split_at(usize::from(answer.1) * usize::from(*k));
+    let k = usize::from(request.k);
+    let (written, rest) = messages.split_at(usize::from(answer.1) * k);
     assert!(rest.iter().all(|&byte| byte == 99));
-    let messages = written.chunks((*k).into()).map(<[u8]>::to_vec).collect();
+    let messages = written.chunks(k).map(<[u8]>::to_vec).collect();
     (answer, messages)
 }
 

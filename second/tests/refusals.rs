@@ -2,24 +2,19 @@
 
 mod common;
 
-use common::started;
+use common::{for_sessions, started, Session};
 use second::field::FIELDS;
 use second::random::Random;
-use second::sample::{request, Request};
-use second::{encode, finish, list, start, turn, Note, WORKING_ROOM};
+use second::sample::{any_note, symbols};
+use second::{encode, finish, list, start, turn, Note, Request, WORKING_ROOM};
 
 const FILL: u8 = 0xc3;
 
 /// All that encode, start or list can be asked, with the sizes of the buffers lent.
 #[derive(Clone)]
 struct Asked {
-    p: u8,
-    points: Vec<u8>,
-    word: Vec<u8>,
+    request: Request,
     message: Vec<u8>,
-    k: u8,
-    m: u8,
-    l: u8,
     t: u8,
     rows: usize,
     room: usize,
@@ -29,13 +24,15 @@ struct Asked {
 
 fn sound() -> Asked {
     Asked {
-        p: 7,
-        points: vec![1, 2, 3, 4, 5, 6],
-        word: vec![6, 2, 4, 4, 4, 2],
+        request: Request {
+            p: 7,
+            points: vec![1, 2, 3, 4, 5, 6],
+            word: vec![6, 2, 4, 4, 4, 2],
+            k: 3,
+            m: 2,
+            l: 3,
+        },
         message: vec![5, 2, 6],
-        k: 3,
-        m: 2,
-        l: 3,
         t: 4,
         rows: 240,
         room: WORKING_ROOM,
@@ -46,23 +43,24 @@ fn sound() -> Asked {
 
 /// Makes the request fail the test behind one number, and none behind a smaller one.
 fn spoil(asked: &mut Asked, number: u8) {
+    let request = &mut asked.request;
     match number {
-        1 => asked.p = 9,
+        1 => request.p = 9,
         2 => {
-            asked.points.truncate(2);
-            asked.word.truncate(2);
+            request.points.truncate(2);
+            request.word.truncate(2);
         }
-        3 => asked.word.push(0),
+        3 => request.word.push(0),
         4 => {
-            asked.k = 1;
+            request.k = 1;
             asked.message.truncate(1);
         }
-        5 => asked.l = 9,
+        5 => request.l = 9,
         6 => {
-            asked.word[1] = 255;
+            request.word[1] = 255;
             asked.message[0] = 7;
         }
-        7 => asked.points[1] = asked.points[0],
+        7 => request.points[1] = request.points[0],
         8 => asked.t = 0,
         9 => {
             asked.rows = 0;
@@ -92,7 +90,8 @@ fn assert_order(numbers: &[u8], job: impl Fn(&Asked) -> u8) {
 fn order_of_encode() {
     assert_order(&[1, 2, 4, 6, 7, 9], |asked| {
         let mut word = vec![FILL; asked.encoded];
-        let number = encode(asked.p, &asked.points, &asked.message, &mut word);
+        let Request { p, points, .. } = &asked.request;
+        let number = encode(*p, points, &asked.message, &mut word);
         assert!(number == 0 || word.iter().all(|&byte| byte == FILL));
         number
     });
@@ -101,17 +100,8 @@ fn order_of_encode() {
 #[test]
 fn order_of_start() {
     assert_order(&[1, 2, 3, 4, 5, 6, 7, 9], |asked| {
-        let Asked {
-            p,
-            points,
-            word,
-            k,
-            m,
-            l,
-            ..
-        } = asked;
         let mut rows = vec![FILL; asked.rows];
-        let (number, note) = start(*p, points, word, *k, *m, *l, &mut rows);
+        let (number, note) = start(&asked.request, &mut rows);
         let untouched = rows.iter().all(|&byte| byte == FILL);
         assert!(number == 0 || (untouched && note == Note::default()));
         number
@@ -121,18 +111,8 @@ fn order_of_start() {
 #[test]
 fn order_of_list() {
     assert_order(&[1, 2, 3, 4, 5, 6, 7, 8, 9], |asked| {
-        let Asked {
-            p,
-            points,
-            word,
-            k,
-            m,
-            l,
-            t,
-            ..
-        } = asked;
         let (mut room, mut messages) = (vec![FILL; asked.room], vec![FILL; asked.messages]);
-        let answer = list(*p, points, word, *k, *m, *l, *t, &mut room, &mut messages);
+        let answer = list(&asked.request, asked.t, &mut room, &mut messages);
         let untouched = room.iter().chain(&messages).all(|&byte| byte == FILL);
         assert!(answer.0 == 0 || (untouched && answer == (answer.0, 0, 0, 0)));
         answer.0
@@ -143,8 +123,7 @@ fn order_of_list() {
 fn list_asks_for_both_buffers_before_13() {
     let number = |t, room, messages| {
         let (mut room, mut messages) = (vec![FILL; room], vec![FILL; messages]);
-        let Asked { points, word, .. } = sound();
-        let number = list(7, &points, &word, 3, 2, 3, t, &mut room, &mut messages).0;
+        let number = list(&sound().request, t, &mut room, &mut messages).0;
         (number, room, messages)
     };
     assert_eq!(number(3, WORKING_ROOM - 1, 9).0, 9);
@@ -160,9 +139,16 @@ fn list_asks_for_both_buffers_before_13() {
 #[test]
 fn boundaries_of_every_number() {
     let number = |p: u8, n: usize, k: u8, m: u8, l: u8| {
-        let points: Vec<u8> = (0..n).map(|place| place as u8).collect();
+        let request = Request {
+            p,
+            points: (0..n).map(|place| place as u8).collect(),
+            word: vec![0; n],
+            k,
+            m,
+            l,
+        };
         let mut rows = vec![0; 20_000];
-        start(p, &points, &vec![0; n], k, m, l, &mut rows).0
+        start(&request, &mut rows).0
     };
     for p in 0..=255 {
         let expected = if FIELDS.contains(&p) { 0 } else { 1 };
@@ -188,24 +174,17 @@ fn boundaries_of_every_number() {
 
 #[test]
 fn excess_bytes_are_never_written() {
-    let mut random = Random::new(30);
-    for _ in 0..100 {
-        let asked = request(&mut random);
-        let setting = asked.setting();
-        let Request {
-            p,
-            points,
-            word,
-            k,
-            m,
-            l,
-        } = asked;
-        let mut encoded = vec![FILL; points.len() + 5];
-        assert_eq!(encode(p, &points, &word[..k.into()], &mut encoded), 0);
-        assert_eq!(encoded[points.len()..], [FILL; 5]);
+    for_sessions(30, 100, |_, session| {
+        let Session {
+            request, setting, ..
+        } = session;
+        let mut encoded = vec![FILL; setting.n + 5];
+        let message = &request.word[..setting.k];
+        assert_eq!(encode(request.p, &request.points, message, &mut encoded), 0);
+        assert_eq!(encoded[setting.n..], [FILL; 5]);
 
         let mut rows = vec![FILL; setting.rows_room() + 5];
-        let (_, note) = start(p, &points, &word, k, m, l, &mut rows);
+        let (_, note) = start(&request, &mut rows);
         assert_eq!(rows[setting.rows_room()..], [FILL; 5]);
         let (_, note, _) = turn(note, &mut rows, u16::MAX);
         assert_eq!(rows[setting.rows_room()..], [FILL; 5]);
@@ -213,21 +192,12 @@ fn excess_bytes_are_never_written() {
         let mut curve = vec![FILL; setting.curve_room() + 5];
         assert_eq!(finish(note, &rows, &mut curve).0, 0);
         assert_eq!(curve[setting.curve_room()..], [FILL; 5]);
-    }
+    });
 }
 
 /// The rows of example 19 at the note's row, for the tests of 10 to 12.
 fn example_19() -> (Note, Vec<u8>) {
-    let Asked { points, word, .. } = sound();
-    let (p, k, m, l) = (7, 3, 2, 3);
-    started(&Request {
-        p,
-        points,
-        word,
-        k,
-        m,
-        l,
-    })
+    started(&sound().request)
 }
 
 fn assert_turn_refuses(note: Note, rows: &[u8], number: u8) {
@@ -244,23 +214,25 @@ fn assert_finish_refuses(note: Note, rows: &[u8], room: usize, number: u8) {
 
 #[test]
 fn a_note_out_of_its_ranges_is_10() {
-    let (sound, rows) = example_19();
+    let (_, rows) = example_19();
+    // The note of example 19 is 7, 6, 3, 2, 3, 1.
     let spoiled = [
-        Note { p: 9, ..sound },
-        Note { n: 2, ..sound },
-        Note { n: 8, ..sound },
-        Note { k: 1, ..sound },
-        Note { k: 6, ..sound },
-        Note { m: 0, ..sound },
-        Note { m: 4, ..sound },
-        Note { l: 1, ..sound },
-        Note { l: 9, ..sound },
-        Note { r: 0, ..sound },
-        Note { r: 5, ..sound },
-        Note { r: 255, ..sound },
-        Note::default(),
+        [9, 6, 3, 2, 3, 1],
+        [7, 2, 3, 2, 3, 1],
+        [7, 8, 3, 2, 3, 1],
+        [7, 6, 1, 2, 3, 1],
+        [7, 6, 6, 2, 3, 1],
+        [7, 6, 3, 0, 3, 1],
+        [7, 6, 3, 4, 3, 1],
+        [7, 6, 3, 2, 1, 1],
+        [7, 6, 3, 2, 9, 1],
+        [7, 6, 3, 2, 3, 0],
+        [7, 6, 3, 2, 3, 5],
+        [7, 6, 3, 2, 3, 255],
+        [0; 6],
     ];
-    for note in spoiled {
+    for [p, n, k, m, l, r] in spoiled {
+        let note = Note { p, n, k, m, l, r };
         // 10 comes before everything else, even with no buffer at all.
         assert_turn_refuses(note, &rows, 10);
         assert_turn_refuses(note, &[], 10);
@@ -333,37 +305,28 @@ fn a_finished_note_with_unfinished_rows_is_11() {
 fn any_bytes_are_answered() {
     let mut random = Random::new(31);
     for _ in 0..20_000 {
-        let mut byte = |small: usize| {
-            if random.once_in(8) {
-                random.byte()
-            } else {
-                random.between(0, small) as u8
-            }
-        };
-        let note = Note {
-            p: byte(7),
-            n: byte(7),
-            k: byte(4),
-            m: byte(4),
-            l: byte(8),
-            r: byte(9),
-        };
-        let (m, l, t) = (byte(4), byte(8), byte(7));
+        let note = any_note(&mut random);
+        let Note { m, l, n: t, .. } = any_note(&mut random);
         let length = random.below(700);
         let mut rows: Vec<u8> = (0..length).map(|_| random.below(3) as u8).collect();
         turn(note, &mut rows, random.below(300) as u16);
         finish(note, &rows, &mut vec![0; random.below(100)]);
-        let points: Vec<u8> = (0..random.below(8))
-            .map(|_| random.below(8) as u8)
-            .collect();
-        let word: Vec<u8> = (0..random.below(8))
-            .map(|_| random.below(8) as u8)
-            .collect();
-        encode(note.p, &points, &word, &mut vec![0; random.below(9)]);
-        start(note.p, &points, &word, note.k, m, l, &mut rows);
+        let [points, word] = [(); 2].map(|()| {
+            let length = random.below(8);
+            symbols(&mut random, 8, length)
+        });
+        let Note { p, k, .. } = note;
+        encode(p, &points, &word, &mut vec![0; random.below(9)]);
+        let request = Request {
+            p,
+            points,
+            word,
+            k,
+            m,
+            l,
+        };
+        start(&request, &mut rows);
         let mut room = vec![0; random.below(2 * WORKING_ROOM)];
-        list(
-            note.p, &points, &word, note.k, m, l, t, &mut room, &mut rows,
-        );
+        list(&request, t, &mut room, &mut rows);
     }
 }

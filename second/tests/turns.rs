@@ -2,25 +2,19 @@
 
 mod common;
 
-use common::{in_the_set, read_rows, started};
+use common::{for_sessions, in_the_set, read_rows, Session};
 use second::curve::{Curve, Term};
 use second::random::Random;
 use second::sample::{dependent_rows, free_rows, request};
-use second::{start, turn, Note, Setting};
+use second::{start, turn, Note, Request, Setting};
 
 /// A random setting with a note at some row.
 fn note_at(random: &mut Random, r: impl Fn(&mut Random, usize) -> usize) -> (Note, Setting) {
     let request = request(random);
-    let (n, l) = (request.points.len() as u8, usize::from(request.l));
-    let note = Note {
-        p: request.p,
-        n,
-        k: request.k,
-        m: request.m,
-        l: request.l,
-        r: r(random, l) as u8,
-    };
-    (note, request.setting())
+    let setting = request.setting();
+    let r = r(random, setting.l) as u8;
+    let first = Note::first(&request);
+    (Note { r, ..first }, setting)
 }
 
 /// Whether rows below r lead at their own power and no row is higher than it may be.
@@ -33,56 +27,54 @@ fn as_left(rows: &[Curve], r: usize) -> bool {
 
 #[test]
 fn the_starting_rows_are_those_of_corollary_14() {
-    let mut random = Random::new(10);
-    for _ in 0..200 {
-        let request = request(&mut random);
-        let setting = request.setting();
-        let (note, bytes) = started(&request);
+    for_sessions(10, 200, |_, session| {
+        let Session { setting, note, .. } = session;
         assert_eq!((note.r, usize::from(note.n)), (1, setting.n));
-        for (i, row) in read_rows(&setting, &bytes).iter().enumerate() {
+        let rows = read_rows(&setting, &session.rows);
+        for (i, row) in rows.iter().enumerate() {
             // Row i has height i, its x-polynomial there is e^(m-i) or 1, and it is in the set.
             let degree = setting.n * setting.m.saturating_sub(i);
             assert_eq!((row.height(), row.top_at(i)), (i, Some((degree, 1))));
-            assert!(in_the_set(&request, row));
+            assert!(in_the_set(&session.request, row));
             // Above row m, y^(i-m) divides the row.
             let least = row.terms().iter().map(|(term, _)| term.y).min();
             assert!(least >= Some(i.saturating_sub(setting.m)));
         }
-    }
+    });
 }
 
 #[test]
 fn turns_of_any_size_make_the_same_updates_as_one() {
-    let mut random = Random::new(11);
-    for _ in 0..300 {
-        let request = request(&mut random);
-        let (note, rows) = started(&request);
-        let mut whole = rows.clone();
+    for_sessions(11, 300, |random, session| {
+        let Session { mut note, .. } = session;
+        let (mut rows, mut whole) = (session.rows.clone(), session.rows);
         let (number, last, updates) = turn(note, &mut whole, u16::MAX);
-        assert_eq!((number, last.r), (0, request.l + 1));
-        assert!(updates as usize <= request.setting().update_bound());
+        assert_eq!((number, last.r), (0, note.l + 1));
+        assert!(updates as usize <= session.setting.update_bound());
 
-        let (mut note, mut rows, mut made) = (note, rows, 0);
-        while note.r <= request.l {
+        let mut made = 0;
+        while note.r <= note.l {
             let allowance = random.between(0, 1 + updates as usize / 3) as u16;
             let (number, next, more) = turn(note, &mut rows, allowance);
             // A turn that is not finished has spent its allowance whole.
-            assert!(number == 0 && (next.r > request.l || more == u32::from(allowance)));
+            assert!(number == 0 && (next.r > next.l || more == u32::from(allowance)));
             assert!(next.r >= note.r && more <= u32::from(allowance));
             (note, made) = (next, made + more);
         }
         assert_eq!((note, made), (last, updates));
         assert_eq!(rows, whole);
-    }
+    });
 }
 
 #[test]
 fn at_every_pause_the_rows_are_in_the_set_and_as_a_turn_leaves_them() {
-    let mut random = Random::new(12);
-    for _ in 0..60 {
-        let request = request(&mut random);
-        let setting = request.setting();
-        let (mut note, mut rows) = started(&request);
+    for_sessions(12, 60, |random, session| {
+        let Session {
+            request,
+            setting,
+            mut note,
+            mut rows,
+        } = session;
         let mut left = setting.update_bound();
         while left > 0 {
             let allowance = random.between(1, left);
@@ -97,7 +89,7 @@ fn at_every_pause_the_rows_are_in_the_set_and_as_a_turn_leaves_them() {
         assert_eq!(note.r, request.l + 1);
         let curves = read_rows(&setting, &rows);
         assert!(curves.iter().enumerate().all(|(i, row)| row.leads_at(i)));
-    }
+    });
 }
 
 /// What is left of a curve when multiples of the rows, each leading at its own power, are taken off from the top.
@@ -119,17 +111,28 @@ fn remainder(setting: &Setting, rows: &[Curve], curve: &Curve) -> Curve {
 
 #[test]
 fn the_finished_rows_still_generate_the_starting_ones() {
-    let mut random = Random::new(13);
-    for _ in 0..200 {
-        let request = request(&mut random);
-        let setting = request.setting();
-        let (note, mut rows) = started(&request);
+    for_sessions(13, 200, |_, session| {
+        let Session {
+            setting, mut rows, ..
+        } = session;
         let first = read_rows(&setting, &rows);
-        turn(note, &mut rows, u16::MAX);
+        turn(session.note, &mut rows, u16::MAX);
         let finished = read_rows(&setting, &rows);
         for row in first {
             assert!(remainder(&setting, &finished, &row).is_zero());
         }
+    });
+}
+
+/// The case of document 01 with one update.
+fn word_0_0_1() -> Request {
+    Request {
+        p: 7,
+        points: vec![1, 2, 3],
+        word: vec![0, 0, 1],
+        k: 2,
+        m: 1,
+        l: 1,
     }
 }
 
@@ -137,7 +140,7 @@ fn the_finished_rows_still_generate_the_starting_ones() {
 fn the_formula_is_reached() {
     // Rows whose count equals the formula exist; for n = 3, k = 2, m = l = 1 the word 0,0,1 is one.
     let mut rows = vec![0; 16];
-    let (_, note) = start(7, &[1, 2, 3], &[0, 0, 1], 2, 1, 1, &mut rows);
+    let (_, note) = start(&word_0_0_1(), &mut rows);
     assert_eq!(turn(note, &mut rows, 0), (0, note, 0));
     assert_eq!(turn(note, &mut rows, 1), (0, Note { r: 2, ..note }, 1));
 }
@@ -187,15 +190,9 @@ fn dependent_rows_end_with_the_late_11() {
 /// The update with d negative, by hand: the new row r is made from the old row s.
 #[test]
 fn an_update_with_d_negative_uses_the_old_row_s() {
-    let setting = Setting {
-        field: second::field::Field::of_size(7).unwrap(),
-        n: 3,
-        k: 2,
-        m: 1,
-        l: 1,
-    };
+    let setting = word_0_0_1().setting();
     let mut rows = vec![0; setting.rows_room()];
-    let (_, note) = start(7, &[1, 2, 3], &[0, 0, 1], 2, 1, 1, &mut rows);
+    let (_, note) = start(&word_0_0_1(), &mut rows);
     turn(note, &mut rows, 1);
     let term = |x, y| Term::new(1, x, y);
     // Row 1 was y - h with h = 4x^2+2x+1, row 0 was e = x^3+x^2+4x+1; d = -1 and c = 3.

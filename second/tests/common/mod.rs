@@ -3,21 +3,38 @@
 
 use second::curve::{Curve, Term};
 use second::field::Field;
-use second::sample::Request;
-use second::{finish, start, turn, Note, Setting};
+use second::random::Random;
+use second::sample;
+use second::{finish, start, turn, Note, Request, Setting};
+
+/// A start that was not refused.
+pub struct Session {
+    pub request: Request,
+    pub setting: Setting,
+    pub note: Note,
+    pub rows: Vec<u8>,
+}
+
+/// Tries the starts of so many random requests.
+pub fn for_sessions(seed: u64, count: usize, check: impl Fn(&mut Random, Session)) {
+    let mut random = Random::new(seed);
+    for _ in 0..count {
+        let request = sample::request(&mut random);
+        let (note, rows) = started(&request);
+        let session = Session {
+            setting: request.setting(),
+            request,
+            note,
+            rows,
+        };
+        check(&mut random, session);
+    }
+}
 
 /// The note and the rows after a start.
 pub fn started(request: &Request) -> (Note, Vec<u8>) {
     let mut rows = vec![99; request.setting().rows_room()];
-    let (number, note) = start(
-        request.p,
-        &request.points,
-        &request.word,
-        request.k,
-        request.m,
-        request.l,
-        &mut rows,
-    );
+    let (number, note) = start(request, &mut rows);
     assert_eq!((number, note.r), (0, 1));
     (note, rows)
 }
