@@ -4,8 +4,8 @@
    to be changed together.
 
    - Every call returns a number of the table below; the first that applies is given, in the order that stands with the call.
-   - A room is an address and a length in bytes. An address is never null, also where the length is 0. The rooms lent to one call
-     do not overlap. A room may be longer than asked for: its excess is never written.
+   - A room is an address and a length in bytes. An address is never null, also where the length is 0. A room that a call may write
+     overlaps no other that it is lent. A room may be longer than asked for: its excess is never written.
    - A call keeps nothing: all there is of an interpolation is its rows and its note, and both belong to the caller.
    - Wherever `note` or `back` is too short the number is 9 before anything else, and nothing is touched. */
 #ifndef PLUCK_H
