@@ -1,6 +1,6 @@
 /* How the work of an interpolation grows: updates against the formula, time per update against the height l and the width W, and the symbols
    that updates rewrite in a second against a bare loop over memory. Words are by chance in every symbol. */
-#include "both.h"
+#include "programs.h"
 #include <stdio.h>
 #include <stdlib.h>
 #include <string.h>
@@ -26,14 +26,14 @@ static grown grow(int n, int k, int m, int l, request *q) {
     for (int i = 0; i < WORDS; i++) {
         *q = any_request(P, n, k, m, l, 1, 0);
         any_word(q);
-        JOB[START].library(q, &started);
-        times t = measure(TURN, q, &started, ROUNDS, 1);
+        run(LIBRARY, START, q, &started);
+        times t = measure(2, TURN, q, &started, ROUNDS, 1);
         ended = started;
-        JOB[TURN].library(q, &ended);
+        run(LIBRARY, TURN, q, &ended);
         int updates = pluck_updates(ended.back);
         if (updates < g.least) g.least = updates;
         if (updates > g.most) g.most = updates;
-        g.updates += updates, g.library += t.library, g.plain += t.plain;
+        g.updates += updates, g.library += t.of[LIBRARY], g.plain += t.of[PLAIN];
     }
     if (g.most > formula(q)) printf("more updates than the formula allows\n"), exit(1);
     return g;
@@ -66,7 +66,7 @@ static double in_turns(const side *started, int allowance, int *turns) {
         *turns = 0;
         double begin = processor_time();
         while (s.note[PLUCK_NOTE_R] <= s.note[PLUCK_NOTE_L]) {
-            pluck_turn(s.note, sizeof s.note, s.rows, sizeof s.rows, (uint16_t)allowance, s.back, sizeof s.back);
+            run_turn(LIBRARY, &s, allowance);
             ++*turns;
         }
         double ns = processor_time() - begin;
@@ -82,7 +82,7 @@ static void by_allowance(void) {
     request q = any_request(P, 31, 6, 4, 8, 1, 0);
     any_word(&q);
     memset(&started, 0, sizeof started);
-    JOB[START].library(&q, &started);
+    run(LIBRARY, START, &q, &started);
     printf("| allowance | turns | us to the end | us a turn |\n|---:|---:|---:|---:|\n");
     for (size_t i = 0; i < sizeof ALLOWANCES / sizeof *ALLOWANCES; i++) {
         int turns;

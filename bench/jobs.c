@@ -1,12 +1,13 @@
-/* The library against the plain program, job by job: first every byte compared, then the time of each. Prints tables, and ends with status 1 if a
-   byte differs, or if interpolation or the list takes the library more than twice the plain program's time at any count of errors. */
-#include "both.h"
+/* The library against the plain program and the second program, job by job: first every byte compared, then the time of each. Prints tables, and ends
+   with status 1 if a byte differs, or if interpolation or the list takes the library more than twice the plain program's time at any count of
+   errors. */
+#include "programs.h"
 #include <stdio.h>
 #include <stdlib.h>
 #include <string.h>
 
 /* The setting of a departure: field 31, all its points, 6 symbols, up to 15 errors. */
-enum { P = 31, N = 31, K = 6, M = 4, L = 8, ERRORS = 15, T = N - ERRORS, WORDS = 3, ROUNDS = 15, CASES = 2000 };
+enum { P = 31, N = 31, K = 6, M = 4, L = 8, ERRORS = 15, T = N - ERRORS, WORDS = 3, CASES = 2000 };
 
 static const uint8_t FIELDS[] = {3, 5, 7, 11, 13, 17, 19, 23, 29, 31};
 
@@ -20,16 +21,27 @@ static request any_setting(void) {
     return q;
 }
 
+static void run_both(int job, const request *q, side *library, side *plain) {
+    run(LIBRARY, job, q, library);
+    run(PLAIN, job, q, plain);
+    compare(job, q, library, plain);
+}
+
 /* All five jobs, the turns with allowances by chance; the number of the list. */
 static int compare_case(const request *q) {
     static side library, plain;
     memset(&library, 0, sizeof library);
     memset(&plain, 0, sizeof plain);
-    do_both(ENCODE, q, &library, &plain);
-    do_both(START, q, &library, &plain);
-    while (library.note[PLUCK_NOTE_R] <= q->l) turn_both(q, &library, &plain, (int)any(60));
-    do_both(FINISH, q, &library, &plain);
-    do_both(LIST, q, &library, &plain);
+    run_both(ENCODE, q, &library, &plain);
+    run_both(START, q, &library, &plain);
+    while (library.note[PLUCK_NOTE_R] <= q->l) {
+        int allowance = (int)any(60);
+        run_turn(LIBRARY, &library, allowance);
+        run_turn(PLAIN, &plain, allowance);
+        compare(TURN, q, &library, &plain);
+    }
+    run_both(FINISH, q, &library, &plain);
+    run_both(LIST, q, &library, &plain);
     return library.number;
 }
 
@@ -44,13 +56,13 @@ static void compare_all(void) {
 
 /* ---- the jobs, by errors ---- */
 
-/* Sums over some words. */
+/* Nanoseconds and outcomes, added up over some words. */
 typedef struct {
     times of[JOBS];
     int words, updates, weight, count;
 } measured;
 
-static double ratio(times t) { return t.library / t.plain; }
+static double ratio(times t) { return t.of[LIBRARY] / t.of[PLAIN]; }
 
 /* The greatest ratio of each job so far. */
 static double worst[JOBS];
@@ -60,34 +72,48 @@ static void judge(const measured *s) {
         if (ratio(s->of[j]) > worst[j]) worst[j] = ratio(s->of[j]);
 }
 
-static void measure_job(measured *sum, int which, const request *q, const side *before, int calls) {
-    times t = measure(which, q, before, ROUNDS, calls);
-    sum->of[which].library += t.library;
-    sum->of[which].plain += t.plain;
+static void add_times(times *sum, const times *t) {
+    for (int program = 0; program < PROGRAMS; program++) sum->of[program] += t->of[program];
 }
 
-static void measure_word(measured *sum, const request *q) {
+/* How many of the programs are measured, and in how many rounds. */
+typedef struct {
+    int programs, rounds;
+} manner;
+
+static const manner WITH_PLAIN = {2, 15};
+/* The second program is slow. */
+static const manner WITH_SECOND = {3, 3};
+
+static void measure_job(measured *sum, manner how, int job, const request *q, const side *before, int calls) {
+    times t = measure(how.programs, job, q, before, how.rounds, calls);
+    add_times(&sum->of[job], &t);
+}
+
+static void measure_word(measured *sum, manner how, const request *q) {
     static side s;
     memset(&s, 0, sizeof s);
-    measure_job(sum, ENCODE, q, &s, 500);
-    measure_job(sum, START, q, &s, 1);
-    measure_job(sum, INTERPOLATION, q, &s, 1);
-    measure_job(sum, LIST, q, &s, 1);
-    JOB[LIST].library(q, &s);
+    measure_job(sum, how, ENCODE, q, &s, 500);
+    measure_job(sum, how, START, q, &s, 1);
+    measure_job(sum, how, INTERPOLATION, q, &s, 1);
+    measure_job(sum, how, LIST, q, &s, 1);
+    run(LIBRARY, LIST, q, &s);
     sum->words++;
     sum->updates += pluck_updates(s.back);
     sum->weight += s.back[PLUCK_BACK_WEIGHT];
     sum->count += s.back[PLUCK_BACK_COUNT];
-    JOB[START].library(q, &s);
-    measure_job(sum, TURN, q, &s, 1);
-    JOB[TURN].library(q, &s);
-    measure_job(sum, FINISH, q, &s, 20);
+    run(LIBRARY, START, q, &s);
+    measure_job(sum, how, TURN, q, &s, 1);
+    run(LIBRARY, TURN, q, &s);
+    measure_job(sum, how, FINISH, q, &s, 20);
 }
 
-static void print_jobs(const measured *s) {
-    printf("| job             | library us | plain us | ratio |\n|---|---:|---:|---:|\n");
-    for (int j = 0; j < JOBS; j++)
-        printf("| %-15s | %10.1f | %8.1f | %5.2f |\n", JOB[j].name, s->of[j].library / s->words / 1000, s->of[j].plain / s->words / 1000, ratio(s->of[j]));
+static void print_jobs(const measured *s, int program, const char *name) {
+    printf("| job             | library us | %6s us | ratio |\n|---|---:|---:|---:|\n", name);
+    for (int j = 0; j < JOBS; j++) {
+        const double *ns = s->of[j].of;
+        printf("| %-15s | %10.1f | %9.1f | %5.2f |\n", JOB[j], ns[LIBRARY] / s->words / 1000, ns[program] / s->words / 1000, ns[LIBRARY] / ns[program]);
+    }
     printf("\n");
 }
 
@@ -98,10 +124,7 @@ static void print_errors(int errors, const measured *s) {
 }
 
 static void add(measured *sum, const measured *s) {
-    for (int j = 0; j < JOBS; j++) {
-        sum->of[j].library += s->of[j].library;
-        sum->of[j].plain += s->of[j].plain;
-    }
+    for (int j = 0; j < JOBS; j++) add_times(&sum->of[j], &s->of[j]);
     sum->words += s->words;
 }
 
@@ -112,13 +135,22 @@ static measured by_errors(void) {
         measured s = {0};
         for (int i = 0; i < WORDS; i++) {
             request q = any_request(P, N, K, M, L, T, errors);
-            measure_word(&s, &q);
+            measure_word(&s, WITH_PLAIN, &q);
         }
         print_errors(errors, &s);
         judge(&s);
         add(&all, &s);
     }
     return all;
+}
+
+static measured with_second(void) {
+    measured s = {0};
+    for (int errors = 0; errors <= ERRORS; errors += 5) {
+        request q = any_request(P, N, K, M, L, T, errors);
+        measure_word(&s, WITH_SECOND, &q);
+    }
+    return s;
 }
 
 /* ---- l messages on the list ---- */
@@ -157,7 +189,7 @@ static request on_lines(void) {
 static measured many_roots(void) {
     measured s = {0};
     request q = on_lines();
-    measure_word(&s, &q);
+    measure_word(&s, WITH_PLAIN, &q);
     printf("Field 31, n = %d, k = 2, m = 2, l = 8, t = %d: weight %d, %d updates, %d messages on the list.\n\n", q.n, q.t, s.weight, s.updates, s.count);
     if (s.count != L) {
         printf("not l messages on the list\n");
@@ -173,10 +205,13 @@ int main(void) {
     printf("The last two columns are library/plain.\n\n");
     measured all = by_errors();
     printf("\nAll of these words, by the word:\n\n");
-    print_jobs(&all);
+    print_jobs(&all, PLAIN, "plain");
+    printf("Words of 0, 5, 10 and 15 errors, against the second program:\n\n");
+    measured second = with_second();
+    print_jobs(&second, SECOND, "second");
     printf("### As many messages as a list can have\n\n");
     measured many = many_roots();
-    print_jobs(&many);
+    print_jobs(&many, PLAIN, "plain");
     printf("The worst of all lines, each to be at most 2: interpolation=%.2f list=%.2f\n\n", worst[INTERPOLATION], worst[LIST]);
     return worst[INTERPOLATION] > 2 || worst[LIST] > 2;
 }
