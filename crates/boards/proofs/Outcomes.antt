@@ -4,12 +4,11 @@ use mathlib.Core.Logic.{_⊎_, inl, inr}
 use mathlib.Core.List.{List}
 use Prim.Native.Nat.{ℕ, _<_, _≤_}
 use native.Mathlib.Omega.{arith}
-use lib.ListN.{length}
 use Rattle.rows.proofs.Starting.{start-determined}
 use Rattle.rows.proofs.Turning.{turn-determined}
 use Rattle.rows.proofs.Finishing.{finish-determined}
 use Rattle.near.proofs.Determined.{list-determined}
-use Rattle.boards.specs.Lent.{noteBytes, backBytes, noteInto, backInto}
+use Rattle.boards.specs.Lent.{noteInto, backInto}
 use Rattle.boards.specs.Calls.{StartCall, TurnCall, FinishCall, ListCall}
 
 -- a room is not both too short and long enough

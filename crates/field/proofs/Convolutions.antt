@@ -5,7 +5,7 @@ use Prim.Native.Nat.{ℕ, _+_, _-_, _*_}
 use native.Mathlib.Numerals.{add-one}
 use lib.ListN.{getD}
 use Rattle.field.specs.Field.{sum}
-use Rattle.field.specs.Symbols.{symbol, productOf}
+use Rattle.field.specs.Symbols.{symbol}
 use Rattle.field.specs.Kernels.{convolution}
 use Rattle.field.proofs.SymbolLaws.{symbol-plus, symbol-times}
 

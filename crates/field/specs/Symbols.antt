@@ -13,7 +13,7 @@ use native.Mathlib.Nat.{mod-mod}
 use native.Mathlib.Decide.{ℕ-discrete}
 use lib.Dec.{T, eqb}
 use lib.ListN.{getD}
-use Rattle.field.specs.Field.{Ring, Field}
+use Rattle.field.specs.Field.{Field}
 
 abbrev pub or : Bool → Bool → Bool
 or true b = true

@@ -1,6 +1,5 @@
 // The messages near a received word, in one call.
-ghost use mathlib.Core.Path.{_≡_};
-ghost use Prim.Native.Nat.{ℕ, _+_, _-_, _*_, _<_, _≤_};
+ghost use Prim.Native.Nat.{_+_, _-_, _*_, _<_, _≤_};
 ghost use lib.ListN.{length};
 ghost use Rattle.poly.specs.Table.{First};
 ghost use Rattle.rows.specs.Bytes.{shape, curveBytes};

@@ -4,7 +4,7 @@ use mathlib.Core.List.{List, [], _∷_}
 use Prim.Native.Nat.{ℕ, suc}
 use Rattle.field.specs.Field.{Ring, prod}
 use Rattle.field.specs.Symbols.{symbol, symbols, sumOf, productOf, negativeOf}
-use Rattle.poly.specs.Polynomials.{Seq, zeroS, oneS, addS, mulS, consS, constS, xS, lin, locator, value, binomial}
+use Rattle.poly.specs.Polynomials.{Seq, zeroS, oneS, addS, mulS, consS, lin, locator, value, binomial}
 
 abbrev seven : Ring
 seven = symbols 7 .ring

@@ -11,11 +11,10 @@
 use mathlib.Core.Path.{_≡_}
 use mathlib.Core.Bool.{Bool, true, false}
 use mathlib.Core.List.{List}
-use Prim.Native.Nat.{ℕ, suc, _+_, _-_, _*_, _≤_, _<_}
+use Prim.Native.Nat.{ℕ, suc, _+_, _-_, _*_, _≤_}
 use lib.Dec.{leb}
 use lib.ListN.{length, getD}
-use Rattle.field.specs.Field.{Ring}
-use Rattle.field.specs.Symbols.{Element, symbol, symbols}
+use Rattle.field.specs.Symbols.{symbol, symbols}
 use Rattle.rows.specs.Curves.{Curve}
 use Rattle.rows.specs.declared.Shape.{Shape}
 

@@ -5,10 +5,9 @@
 use mathlib.Core.Path.{_≡_}
 use mathlib.Core.Logic.{_⊎_}
 use mathlib.Core.List.{List, [], _∷_}
-use Prim.Native.Nat.{ℕ, zero, suc, _+_, _-_, _*_, _≤_, _<_}
-use lib.ListN.{length, getD, take}
-use Rattle.field.specs.Field.{Ring}
-use Rattle.field.specs.Symbols.{Listed, Element, symbol, symbols, symbolsOf}
+use Prim.Native.Nat.{ℕ, suc, _-_, _<_}
+use lib.ListN.{length, take}
+use Rattle.field.specs.Symbols.{symbols, symbolsOf}
 use Rattle.poly.specs.Polynomials.{Seq, locator, Through}
 use Rattle.poly.specs.Table.{Refusal, First, NotListed, BadCount, BadDegree, BadHeights, TooLarge, Repeated, TooShort}
 use Rattle.rows.specs.Curves.{Curve, Height}

@@ -12,7 +12,7 @@
 --   Exchanges, Exchanged   what changing two runs of bytes asks and leaves
 --   Ready note xs       the note and the rows of an accepted turn; Went  what it leaves
 use mathlib.Core.Path.{_≡_}
-use mathlib.Core.Bool.{Bool, true, false}
+use mathlib.Core.Bool.{true, false}
 use mathlib.Core.Logic.{_⊎_}
 use mathlib.Core.List.{List, []}
 use Prim.Native.Nat.{ℕ, zero, suc, _+_, _-_, _*_, _≤_, _<_, max}
@@ -21,7 +21,7 @@ use lib.ListN.{length, getD, take}
 use lib.Seq.{sets}
 use Rattle.field.specs.Field.{Ring}
 use Rattle.field.specs.Lists.{tabulate}
-use Rattle.field.specs.Symbols.{Listed, Element, symbols}
+use Rattle.field.specs.Symbols.{Listed, symbols}
 use Rattle.field.specs.Operations.{minusBytes, timesBytes}
 use Rattle.field.specs.Kernels.{Region}
 use Rattle.poly.specs.Table.{Refusal}

@@ -1,6 +1,6 @@
 // The rows that a start fills.
 ghost use mathlib.Core.Path.{_≡_};
-ghost use Prim.Native.Nat.{ℕ, suc, _+_, _-_, _*_, _<_, _≤_};
+ghost use Prim.Native.Nat.{suc, _+_, _-_, _*_, _<_, _≤_};
 ghost use lib.ListN.{length};
 ghost use Rattle.poly.specs.Buffers.{Factors};
 ghost use Rattle.rows.specs.Bytes.{rowsBytes, Untouched};

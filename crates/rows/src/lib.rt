@@ -1,7 +1,6 @@
 // The rows of an interpolation in lent bytes: start, turn and finish.
 ghost use mathlib.Core.Path.{_≡_};
-ghost use Prim.Native.Nat.{ℕ, _+_, _-_, _*_, _<_, _≤_};
-ghost use lib.ListN.{length};
+ghost use Prim.Native.Nat.{_+_, _-_, _*_, _<_};
 ghost use Rattle.poly.specs.Table.{First, BadHeights};
 ghost use Rattle.poly.specs.Buffers.{Decided};
 ghost use Rattle.rows.specs.Jobs.{HasStarted, HasTurned, HasFinished, startTable, turnTable, finishTable, BadNote, atRow, withNote};

@@ -1,5 +1,5 @@
 -- `program::answer` meets its contract: it reads, lists and prints.
-use mathlib.Core.Path.{_≡_, sym}
+use mathlib.Core.Path.{sym}
 use lib.Seq.{length-take-le}
 use borrow.Author.Tests.{not-true, not-false}
 use Rattle.text.proofs.Outcomes.{write-within}

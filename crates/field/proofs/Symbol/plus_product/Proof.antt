@@ -1,6 +1,6 @@
 -- `field::Symbol::plus_product` meets its contract.
 use mathlib.Core.Path.{sym}
-use Prim.Native.Nat.{ℕ, _<_, _+_, _*_}
+use Prim.Native.Nat.{_<_, _+_, _*_}
 use native.Mathlib.Omega.{arith}
 use native.Mathlib.Nat.{mod-lt, mul-le-mul}
 use borrow.Author.Needs.{needs}
