@@ -1,7 +1,11 @@
 -- The ten fields: the numbers below p, one byte each, with sums and products modulo p.
+--   among list p        p is among the numbers of a list; sizes  the ten field sizes
 --   listed p, Listed p  p is one of the ten: as a test, and as a fact that brings p's bounds
 --   Element p           a symbol, that is, a number that is its own remainder modulo p
---   symbol p n          the symbol of a number
+--   symbol p n          the symbol of a number; same-byte  symbols of one byte are one symbol
+--   sumOf, productOf, negativeOf   the operations: those on numbers, and then the remainder modulo p
+--   inverseOf           the symbol of inverseNumber p a, the number below p whose product with a leaves 1, or 0 if there is none
+--   sameSymbol          whether two symbols are the same
 --   symbols p           the symbols with their operations; a field where p is listed (proofs/SymbolLaws.antt)
 --   symbolsOf p xs      the symbols of bytes, by their places; zero past the end
 use mathlib.Core.Path.{_≡_, ap}
@@ -19,12 +23,10 @@ abbrev pub or : Bool → Bool → Bool
 or true b = true
 or false b = b
 
--- p is among the numbers of a list
 abbrev pub among : List ℕ → ℕ → Bool
 among [] p = false
 among (k ∷ ks) p = or (eqb p k) (among ks p)
 
--- the ten field sizes
 abbrev pub sizes : List ℕ
 sizes = 3 ∷ 5 ∷ 7 ∷ 11 ∷ 13 ∷ 17 ∷ 19 ∷ 23 ∷ 29 ∷ 31 ∷ []
 
@@ -43,7 +45,6 @@ pub record Element (p : ℕ) : Type 0 where
 unfoldable pub symbol : (p n : ℕ) → Element p
 symbol p n = record { byte = n % p; own = mod-mod n p }
 
--- symbols of the same byte are the same
 pub same-byte : (p : ℕ) {a b : Element p} → a .byte ≡ b .byte → a ≡ b
 same-byte p {a} {b} e =
     ap (λ (u : (n : ℕ) × (n % p ≡ n)). record { byte = u .0; own = u .1 })
@@ -58,7 +59,6 @@ abbrev pub find : ℕ → (ℕ → Bool) → ℕ
 find zero t = 0
 find (suc n) t = let r = find n t in select (t n) n r
 
--- the number below p whose product with a leaves 1, or 0
 abbrev pub inverseNumber : ℕ → ℕ → ℕ
 inverseNumber p a = find p (λ y. eqb (a * y % p) 1)
 

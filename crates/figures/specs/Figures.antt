@@ -1,10 +1,12 @@
 -- The figures of document 01 that are marked to be proved, as one statement. Each says what any outcome is that meets the contracts of the
 -- jobs, whatever the lent bytes were before.
+--   six, three             the points 1 to 6 and the points 1, 2, 3; word-0-0-1  a word at these
 --   Encodes message word   encode gives this word over the field of 7 at the points 1 to 6
 --   Calls q                start, turn and finish one after the other, for the request q
 --   Gives                  what three such calls hand back, and the bytes of the curve
---   atThree word m         the request of a word at the points 1, 2, 3, with k = 2 and l = m
+--   atThree word m         the request of a word at the points 1, 2, 3 over the field of 7, with k = 2 and l = m
 --   ListGives t near       what list hands back for the word 0, 0, 1 there, asked for t agreements
+--   EncodeGives number p points k   encode of a message of k symbols gives this number
 --   Refused number ..      start and list both give this number
 --   Figures                the whole table
 use mathlib.Core.Path.{_≡_}
@@ -72,7 +74,6 @@ ListGives t near =
     (room zeroed before after : List ℕ) (back : Near) → workingRoom ≤ length room → 2 ≤ length before
     → HasListed 7 three word-0-0-1 2 1 1 t room zeroed before after back → (back ≡ near) × (after ≡ before)
 
--- encode of a message of k symbols
 abbrev pub EncodeGives : ℕ → ℕ → List ℕ → ℕ → Type 0
 EncodeGives number p points k = (message before after : List ℕ) (given : ℕ) → length message ≡ k → Encoded p points message before after given → given ≡ number
 

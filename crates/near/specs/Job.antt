@@ -3,8 +3,9 @@
 --   listTable          refusals 1 to 9
 --   flat list          the messages one after the other
 --   Zeroed size xs ys  ys is xs with its first `size` bytes zero
---   TheCurve Q         Q is the curve of demand 2: of those that pass through the received points, the monic nonzero one with the
---                      smallest leading term
+--   refusal number     what a refusal hands back: its number and zeros
+--   TheCurve p points word k m l Q   Q is the curve of demand 2: of those that pass through the received points, the monic nonzero
+--                      one with the smallest leading term
 --   RuleUpdates        how many updates the rule makes from the starting rows to the end
 --   Lists              what an answered list hands back and leaves in the message room: exactly the messages wanted
 --   Answers            what an accepted list leaves: with w the curve's weight, 13 where m t is not above w, and else the list
@@ -48,7 +49,6 @@ pub record Zeroed (size : ℕ) (before after : List ℕ) : Type 0 where
   pub zero : (q : ℕ) → q < size → getD after q 0 ≡ 0
   pub rest : Untouched size before after
 
--- a refusal hands back its number and zeros
 abbrev pub refusal : ℕ → Near
 refusal number = record { number = number; count = 0; updates = 0; weight = 0 }
 

@@ -5,6 +5,7 @@
 --   Numbering F p element   element 0 is zero, and each element of the field is element c for one c below p, and for no other below p
 --   polynomial job x        the polynomial whose coefficients have the numbers x, constant first
 --   Spelt p k x             x is k numbers below p
+--   one test                1 where the test holds, else 0
 --   agreements job n g      at how many of the first n places g takes at the point the value received
 --   Wanted job g            g has degree below k and at least t agreements
 --   In x list               x is on the list
@@ -54,7 +55,6 @@ abbrev pub Ascending : List (List ℕ) → Type 0
 Ascending [] = Unit
 Ascending (x ∷ list) = ((y : List ℕ) → In y list → Before x y) × Ascending list
 
--- 1 for a yes
 abbrev pub one : {A : Type 0} → Dec A → ℕ
 one (yes h) = 1
 one (no h) = 0

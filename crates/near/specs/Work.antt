@@ -1,4 +1,4 @@
--- What the functions of the search ask and give. Their curve lies in bytes as a row does; the bytes themselves come back as they were.
+-- What the functions of the search ask and give. Their curve lies in bytes as a row does; a level gives these bytes back as they were.
 --   planShape plan          the numbers by which the curve's bytes are read
 --   curveOf plan xs         the curve that the bytes xs are
 --   sliceOf plan xs i v     the coefficient of x^v in that curve at y = x^i y, as a polynomial in y

@@ -92,6 +92,7 @@ fn clear(room: &mut [u8], len: usize)
     }
 }
 
+// The list job: the curve, then, where m t is above its weight, the messages found on it.
 pub fn list(
     p: u8,
     points: &[u8],

@@ -10,7 +10,7 @@
 --   Product                 those bytes become the coefficients of the product, as far as they go
 --   Halves p a b work       p is listed, and a, b and all 64 bytes are below p
 --   excessOf p a b work     (h (a) - b) / e (a), with h in the first 32 bytes and e in the next 32, as a byte
---   Places p points word    received places: at most p of them, all different, every byte below p
+--   Places p points word    received places: p is listed, and they are at most p, as many points as symbols, all different, every byte below p
 --   Interpolated            after s places: h through them in the first 32 bytes, the product of x - point in the next 32
 use mathlib.Core.Path.{_≡_}
 use mathlib.Core.Bool.{Bool, true, false}

@@ -1,4 +1,4 @@
--- The definitions on small numbers, by computation: over the field of 7, (x - 1) (x - 2) = 2 + 4 x + x^2, and at 5 that is 4 * 3, or 5.
+-- The definitions on small numbers, by computation: over the field of 7, (x - 1) (x - 2) = 2 + 4 x + x^2, and at 5 that is 4 * 3, or 5; and (1 + x)^4 has 6 x^2.
 use mathlib.Core.Path.{_≡_, refl}
 use mathlib.Core.List.{List, [], _∷_}
 use Prim.Native.Nat.{ℕ, suc}

@@ -4,7 +4,7 @@
 --   shape p n k m l     the numbers by which bytes are read: p, u = k - 1, W and l
 --   slot S              the bytes of a slot; curveBytes S, rowsBytes S  of a curve, of the rows
 --   place S i j e       where the coefficient of x^e y^j of row i stands
---   rowsOf S xs         the rows that the bytes xs are
+--   rowsOf S xs         the rows that the bytes xs are; zero outside of the slots: within test n  n where the test holds, else 0
 --   Holds S xs rows     the bytes xs are these rows, each coefficient below p
 --   HoldsCurve S xs Q   the bytes xs are the curve Q
 --   Untouched size xs ys    from the byte `size` on ys is as xs, and as long

@@ -1,6 +1,6 @@
 -- Demands 2 and 3 as statements about what the jobs hand back.
 --   Request        what start is given
---   ringFor, shapeFor, noteFor q   its symbols, the numbers by which its bytes are read, and its note with r as the current row
+--   ringFor q, shapeFor q, noteFor q r   its symbols, the numbers by which its bytes are read, and its note with r as the current row
 --   updatesBound q the formula
 --   Member q Q     Q is zero or one of the curves of demand 2
 --   Begun          start accepts the request

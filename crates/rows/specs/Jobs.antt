@@ -1,7 +1,14 @@
--- The jobs start, turn and finish: when each refuses, and what it leaves. A refusal leaves every byte as it was.
+-- The jobs start, turn and finish: when each refuses, and what it leaves. A refusal at entry leaves every byte as it was.
 --   BadNote note           10: 1, 2, 4 or 5 would apply to the note, or r is outside 1 to l + 1
+--   shapeOf note           the numbers by which the bytes of its rows are read
 --   AsLeft S r xs          the rows are as a turn leaves them; 11 if they are not
---   HasStarted, HasTurned, HasFinished   what the job hands back and leaves in the lent bytes
+--   atRow note r           the note with r as its current row; noNote  all zeros
+--   startTable, turnTable, finishTable   the refusals of each job, in order
+--   HasStarted             what start hands back and leaves in the lent rows
+--   Goes                   an accepted turn goes by the rule and hands over what the rule leaves; HasTurned  the same with refusals
+--   withNote made note     what a turn in place hands back, with the note that it leaves
+--   HasHeight p Q j        the nonzero curve Q has height j
+--   Hands                  finish hands over the lightest row, made monic, with its weight and height; HasFinished  the same with refusals
 use mathlib.Core.Path.{_≡_}
 use mathlib.Core.Logic.{_⊎_}
 use mathlib.Core.List.{List, [], _∷_}
@@ -74,7 +81,6 @@ turnTable note rows =
     record { number = 11; applies = AsLeft (shapeOf note) (note .r) rows → ⊥ } ∷
     []
 
--- the turn goes by the rule, and hands over what the rule leaves
 pub record Goes (note : Note) (allowance : ℕ) (before after : List ℕ) (back : Turned) : Type 0 where
   pub outcome : Outcome (symbols (note .p))
   pub turn : Turn (symbols (note .p)) (note .k - 1) (note .l) allowance (rowsOf (shapeOf note) before) (note .r) outcome
@@ -90,7 +96,6 @@ pub record HasTurned (note : Note) (allowance : ℕ) (before after : List ℕ) (
   pub rest : Untouched (rowsBytes (shapeOf note)) before after
   pub refused : (entry ≡ 0 → ⊥) → (back .number ≡ entry) × (back .note ≡ note) × (back .updates ≡ 0) × (after ≡ before)
 
--- what a turn in place hands back, with the note that it leaves
 abbrev pub withNote : Made → Note → Turned
 withNote made note = record { number = made .number; note = note; updates = made .updates }
 
@@ -104,12 +109,10 @@ finishTable note rows curve =
     record { number = 11; applies = AsLeft (shapeOf note) (note .r) rows → ⊥ } ∷
     []
 
--- a nonzero curve's height
 pub record HasHeight (p : ℕ) (Q : Curve (symbols p .ring)) (j : ℕ) : Type 0 where
   pub above : Height (symbols p .ring) (suc j) Q
   pub some : (e : ℕ) × (Q j e ≡ symbols p .ring .𝟘 → ⊥)
 
--- the lightest row made monic
 pub record Hands (S : Shape) (rows : ℕ → Curve (symbols (S .p) .ring)) (curve : List ℕ) (weight height : ℕ) : Type 0 where
   pub row : ℕ
   pub lightest : Lightest (symbols (S .p) .ring) (S .u) (S .l) rows row weight

@@ -1,12 +1,14 @@
 -- The rule of a turn, step for step, on rows that are curves.
 --   mono c d            c x^d
 --   cross a P c b Q     x^a P - c x^b Q
+--   choose test a b     a where the test holds, else b
 --   put k v f           f with v at k
---   ratio               the leading coefficient of P over that of Q, where both lead at y^s, at weights w and v
---   update              row r leads at (w, s) and row s at (v, s): the rows after the update. With d = w - v,
+--   ratio u s w v P Q   the leading coefficient of P over that of Q, where both lead at y^s, at weights w and v
+--   update u r w s v rows   row r leads at (w, s) and row s at (v, s): the rows after the update. With d = w - v,
 --                       row r becomes row r - c x^d row s, or x^(-d) row r - c row s, and then row s becomes the old row r
 --   Due u l r rows w s v   an update is due: row r leads at (w, s), with s other than r, and row s at (v, s)
 --   Outcome             what a turn leaves: its number, the rows, the current row, and the updates made
+--   stops number rows r     it leaves these rows, with no update; counted o  one update more than o
 --   Turn u l a rows r o a turn with the allowance a, on these rows with r the current one, ends in o
 use mathlib.Core.Logic.{_≢_}
 use Prim.Native.Nat.{ℕ, zero, suc, _-_, _*_, _≤_, _<_}

@@ -5,12 +5,16 @@
 --   LightRow S xs i     no term of row i weighs more than the width
 --   SizeTo, Heavier     what the two parts of a search for the leading term say
 --   FoundLead           what a search for the leading term says
---   ZeroBetween xs a b  the bytes from a to b are zero
+--   ZeroBetween xs a b  the bytes from a up to, not including, b are zero
 --   SoundRow            what Sound says of row i
 --   Crosses             rows r and s lead at the same power s of y, at weights w and v
 --   delayedByte         a coefficient of x^d times a slot; Slots, SlotVanishes  what the test of one slot for zero asks and says
 --   Exchanges, Exchanged   what changing two runs of bytes asks and leaves
 --   Ready note xs       the note and the rows of an accepted turn; Went  what it leaves
+--   Whole S xs          rows of which each leads at its own power of y
+--   HandsOver           what handing over a row asks: where it leads, and room for the curve
+--   copiedFrom src at len xs   the first `len` bytes become those of src from `at` on
+--   requestTable        the refusals of a request, before that of the lent bytes
 use mathlib.Core.Path.{_≡_}
 use mathlib.Core.Bool.{true, false}
 use mathlib.Core.Logic.{_⊎_}
@@ -130,7 +134,6 @@ pub record Went (note : Note) (allowance : ℕ) (before after : List ℕ) (back 
   pub goes : Goes note allowance before after back
   pub rest : Untouched (rowsBytes (shapeOf note)) before after
 
--- rows of which each leads at its own power of y
 pub record Whole (S : Shape) (xs : List ℕ) : Type 0 where
   pub bytes : Bytes S xs
   pub sound : Sound (symbols (S .p) .ring) (S .u) (S .width) (S .l) (suc (S .l)) (rowsOf S xs)
@@ -142,10 +145,8 @@ pub record HandsOver (S : Shape) (xs : List ℕ) (row weight : ℕ) (curve : Lis
   pub light : weight ≤ S .width
   pub room : curveBytes S ≤ length curve
 
--- the first `len` bytes become those of src from `at` on
 unfoldable pub copiedFrom : List ℕ → ℕ → ℕ → List ℕ → List ℕ
 copiedFrom src at len xs = sets xs 0 (tabulate len (λ i. getD src (at + i) 0))
 
--- the refusals of a request, before that of the lent bytes
 abbrev pub requestTable : ℕ → List ℕ → List ℕ → ℕ → ℕ → ℕ → List Refusal
 requestTable p points word k m l = take 7 (startTable p points word k m l [])

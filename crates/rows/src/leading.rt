@@ -49,7 +49,7 @@ pub fn row_lead(rows: &[u8], shape: Shape, i: usize) -> Found
     found
 }
 
-// What was found, or the term x^(size-1) y^j where that weighs more; a power of y weighs `lift` in all.
+// What was found, or the term x^(size-1) y^j where that weighs more; y^j weighs `lift`.
 fn heavier(found: Found, size: usize, lift: usize, j: usize) -> Found
     requires { ⌜ size + lift < 65536 ⌝ }
     ensures { λ r. ⌜ Heavier found size lift j r ⌝ }

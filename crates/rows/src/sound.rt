@@ -75,6 +75,7 @@ fn row_sound(rows: &[u8], shape: Shape, i: usize, r: usize) -> bool
     true
 }
 
+// Whether all rows are as a turn leaves them while r is the current one.
 pub fn sound(rows: &[u8], shape: Shape, r: usize) -> bool
     requires { ⌜ Fine shape × ((rowsBytes shape ≤ length (now rows)) × (r ≤ suc (shape .l))) ⌝ }
     ensures { λ b. ⌜ Decided b (AsLeft shape r (now (rows .entry))) ⌝ }

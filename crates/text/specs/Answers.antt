@@ -1,9 +1,12 @@
 -- Answers: the text that a reply prints.
+--   digits i n               the digits of n, if there are no more than i of them
 --   decimal n                n in decimal, without leading zeros
+--   comma i                  what stands before number i; joined i ns  the first i numbers
 --   commas ns                the numbers with commas between them
 --   message k xs i           message i of those in xs, k symbols each
 --   messageLines count k xs  a line for each of the first `count` messages
---   Reply                    the number from the table, and what is printed beside the number 0
+--   Reply                    the number from the table, and what is printed beside the number 0; reply  made of its parts
+--   details number o         the lines after the first
 --   answer o                 the text
 --   room o                   so many bytes are enough for it: a number takes at most five, a comma or a line feed one more
 --   HasWritten o before after r   what is left and handed back: the text and its length, or nothing where out may be too short or messages are missing
@@ -15,7 +18,6 @@ use lib.Dec.{ltb}
 use lib.ListN.{length, getD, take, drop}
 use Rattle.text.specs.Lines.{bytes, line}
 
--- the digits of n, if there are no more than i of them
 unfoldable pub digits : ℕ → ℕ → List ℕ
 digits zero n = []
 digits (suc i) n = elim (ltb n 10) [ true ↦ (48 + n) ∷ [] | false ↦ digits i (n / 10) ++ (48 + n % 10) ∷ [] ]
@@ -23,12 +25,10 @@ digits (suc i) n = elim (ltb n 10) [ true ↦ (48 + n) ∷ [] | false ↦ digits
 abbrev pub decimal : ℕ → List ℕ
 decimal n = digits (suc n) n
 
--- what stands before number i
 unfoldable pub comma : ℕ → List ℕ
 comma zero = []
 comma (suc i) = bytes ","
 
--- the first i numbers
 unfoldable pub joined : ℕ → List ℕ → List ℕ
 joined zero ns = []
 joined (suc i) ns = joined i ns ++ (comma i ++ decimal (getD ns i 0))
@@ -54,7 +54,6 @@ pub record Reply : Type 0 where
 abbrev pub reply : ℕ → ℕ → ℕ → ℕ → ℕ → List ℕ → Reply
 reply number updates weight count k messages = record { number = number; updates = updates; weight = weight; count = count; k = k; messages = messages }
 
--- the lines after the first
 unfoldable pub details : ℕ → Reply → List ℕ
 details zero o =
     line (bytes "updates=") (decimal (o .updates)) ++

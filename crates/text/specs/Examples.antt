@@ -1,4 +1,4 @@
--- The definitions on the document's whole case, with m= and l= left empty, and on two more answers.
+-- The definitions on the document's whole case, with m= and l= left empty, on two more answers, and on a number in decimal.
 use mathlib.Core.Path.{_≡_, refl}
 use mathlib.Core.List.{List, [], _∷_, _++_}
 use Prim.Native.Nat.{ℕ, zero, suc, _-_, _≤_, _<_}

@@ -2,13 +2,16 @@
 --   written text i           the number that the first i bytes write, decimal digits
 --   Number text n            one to three digits, leading zeros allowed, that write n; n is at most 255
 --   Numbers text ns          numbers with commas between them, one at least
---   FewNumbers text ns       the same, at most 31 of them
+--   FewNumbers text ns       the same, at most 31 of them: most
 --   Optional other text n    a number, or nothing, which means `other`
 --   Line key Value Rest text   a line of this key with a value of Value, and then a text of Rest
+--   Form                     a line's key, and which values it may have
 --   Lines forms text         a line of each form, in their order, and nothing more
 --   Meaning                  what a request asks for
 --   lines r                  the forms of the seven lines that mean r
 --   Readable text r          the text can be read, and means r
+--   padded ns                numbers as a request keeps them: zeros fill the array
+--   stored r, unread         what is handed back for a text that means r, and for one that can't be read
 --   HasRead text back        what is handed back: the meaning, or zeros where there is none
 use mathlib.Core.Path.{_≡_}
 use mathlib.Core.Bool.{true, false}
@@ -33,7 +36,6 @@ pub data Numbers : List ℕ → List ℕ → Type 0 where
   one : {text : List ℕ} {n : ℕ} → Number text n → Numbers text (n ∷ [])
   more : {first rest : List ℕ} {n : ℕ} {ns : List ℕ} → Number first n → Numbers rest ns → Numbers (first ++ (bytes "," ++ rest)) (n ∷ ns)
 
--- the greatest count of numbers in a line
 abbrev pub most : ℕ
 most = 31
 
@@ -83,7 +85,6 @@ lines r =
 abbrev pub Readable : List ℕ → Meaning → Type 0
 Readable text r = Lines (lines r) text
 
--- numbers as a request keeps them: zeros fill the array
 abbrev pub padded : List ℕ → List ℕ
 padded ns = ns ++ replicate (most - length ns) 0
 
