@@ -1,5 +1,5 @@
-/* How the work of an interpolation grows: updates against the formula, time per update against the height l and the width W, and the symbols
-   that updates rewrite in a second against a bare loop over memory. Words are by chance in every symbol. */
+/* How the work of an interpolation grows: updates against the formula, time per update against l, m and the width W, time to the end against the
+   allowance, and the symbols that updates rewrite in a second against a bare loop over memory. Words are by chance in every symbol. */
 #include "programs.h"
 #include <stdio.h>
 #include <stdlib.h>

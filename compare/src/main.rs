@@ -1,7 +1,7 @@
 //! Compares the library with the second program: the same calls to both, and every number, note, count and lent byte of
 //! their answers.
 //!
-//! `compare SEED COUNT` goes through COUNT sessions, in each of which every job is called at least once, on a word of
+//! `compare SEED [COUNT]` goes through COUNT sessions, 20,000 if none is given, in each of which every job is called at least once, on a word of
 //! its own, and prints what was compared as Markdown. At the first difference it prints the whole case and ends with
 //! status 1.
 
