@@ -1,6 +1,7 @@
 pub mod Places
 pub mod Numbers
 pub mod Grammar
+pub mod Lengths
 pub mod Spans
 pub mod Items
 pub mod Decimals
