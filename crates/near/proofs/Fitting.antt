@@ -1,24 +1,32 @@
 -- Which symbols fit. Below its least v the slices of T are zero, and there it is not, if T is not zero: so a root of the slice at v is
--- a symbol that fits, as the document says it. A root's next symbol is one.
+-- a symbol that fits, as the document says it. A root's next symbol is one. The curve that the search keeps, the symbols chosen one by
+-- one, is this T: so its test is whether the symbol fits.
 use mathlib.Core.Path.{_≡_, refl, sym, ap, _∙_, fun-ext}
+use mathlib.Core.Logic.{_↔_}
 use mathlib.Core.Bool.{Bool, true, false, true≢false}
+use mathlib.Core.List.{List, [], _∷_, _++_, append-nil}
 use Prim.Native.Nat.{ℕ, zero, suc, _+_, _-_, _*_, _≤_, _<_, zero-le}
 use native.Mathlib.Nat.{add-sub-cancel, mul-le-mul-right}
 use native.Mathlib.Omega.{arith}
 use native.Mathlib.Decide.{decLe, decLt}
+use lib.ListN.{length}
+use lib.Seq.{append-snoc}
 use Rattle.field.specs.Field.{Ring, RingLaws, Field, FieldLaws}
 use Rattle.poly.specs.Polynomials.{Seq, zeroS, addS, negS, mulS, Series, Below, value}
 use Rattle.poly.proofs.Series.{series, zeroS-at}
-use Rattle.poly.proofs.Shift.{shift, shift-null, shift-back, below-shift}
+use Rattle.poly.proofs.Shift.{shift, shift-null, shift-shift, shift-none, shift-back, below-shift}
 use Rattle.poly.proofs.Orders.{Ord}
 use Rattle.rows.specs.Curves.{Curve, Height, Zero, Under, Lead}
 use Rattle.rows.specs.Turns.{mono}
 use Rattle.rows.proofs.Heights.{zero-at, height-below, below-height}
 use Rattle.rows.proofs.Leads.{under-mono, lead-nonzero}
-use Rattle.near.specs.Search.{Fits, slice, least, some?, lowest}
+use Rattle.near.specs.Lists.{Task, Numbering, polynomial}
+use Rattle.near.specs.Search.{Fits, chosen, slice, least, some?, lowest, curveLeft, level, opened}
+use Rattle.near.proofs.Messages.{polynomial-beyond, polynomial-snoc}
 use Rattle.near.proofs.Weights.{under-shift}
 use Rattle.near.proofs.Steps.{slice-at, slice-beyond, prefixed-slice, root-symbol}
 use Rattle.near.proofs.Tests.{some-none, some-one}
+use Rattle.near.proofs.Passes.{chosen-shift}
 
 -- all before the least fail, and the least passes
 record Least (W : ℕ) (test : ℕ → Bool) (v : ℕ) : Type 0 where
@@ -123,7 +131,7 @@ module _ {F : Field} (Φ : FieldLaws F) (N W : ℕ) where
             let q : Q ≡ zeroS (Series R) = sym (shift-back (series L) g N Q (height-below R tall)) ∙ rw e (shift-null (series L) (negS R g) N) in
             lead-nonzero lead (λ j d. ap (λ (P : Curve R). P j d) q ∙ zero-at R j d)
 
-    pub slice-fits : (c : R .Car) → value R c N (slice R i (lowest F N W i T) T) ≡ R .𝟘 → Fits R N g i Q c
+    slice-fits : (c : R .Car) → value R c N (slice R i (lowest F N W i T) T) ≡ R .𝟘 → Fits R N g i Q c
     slice-fits c z =
         record {
           power = lowest F N W i T;
@@ -132,7 +140,46 @@ module _ {F : Field} (Φ : FieldLaws F) (N W : ℕ) where
           root = ap (value R c N) (fun-ext (λ j. prefixed-slice L N g i Q j (lowest F N W i T))) ∙ z;
         }
 
-    pub fits-slice : (c : R .Car) → Fits R N g i Q c → value R c N (slice R i (lowest F N W i T) T) ≡ R .𝟘
+    fits-slice : (c : R .Car) → Fits R N g i Q c → value R c N (slice R i (lowest F N W i T) T) ≡ R .𝟘
     fits-slice c h =
         let b : Begins R i (h .power) T = record { none = λ e j l. sym (prefixed-slice L N g i Q j e) ∙ h .divides j e l; some = λ n. h .highest (λ j. prefixed-slice L N g i Q j (h .power) ∙ n j) } in
         ap (λ v. value R c N (slice R i v T)) (begins-unique R begins b) ∙ ap (value R c N) (fun-ext (λ j. sym (prefixed-slice L N g i Q j (h .power)))) ∙ h .root
+
+-- with c chosen, the search goes on from Q as the symbols x leave it to Q as x and c leave it
+module _ {F : Field} (job : Task F) (N : ℕ) where
+  left-snoc : (x y : List ℕ) (c : ℕ) (T : Curve (F .ring)) → curveLeft job N x (y ++ (c ∷ [])) T ≡ chosen (F .ring) N (length (x ++ y)) (job .element c) (curveLeft job N x y T)
+  unfolding curveLeft
+  left-snoc x [] c T = rw (append-nil x) refl
+  left-snoc x (b ∷ y) c T = rw (← append-snoc x b y) (left-snoc (x ++ (b ∷ [])) y c (chosen (F .ring) N (length x) (job .element b) T))
+
+  pub level-next : (W left : ℕ) (x : List ℕ) (c : ℕ) (Q : Curve (F .ring))
+      → opened job N W left x (curveLeft job N [] x Q) c ≡ level job N W left (x ++ (c ∷ [])) (curveLeft job N [] (x ++ (c ∷ [])) Q)
+  level-next W left x c Q = ap (level job N W left (x ++ (c ∷ []))) (sym (left-snoc [] x c Q))
+
+module _ {F : Field} (Φ : FieldLaws F) (job : Task F) (num : Numbering F (job .p) (job .element)) (N : ℕ) (Q : Curve (F .ring)) where
+  shift-left : (x y : List ℕ) → curveLeft job N x y (shift (Series (F .ring)) (polynomial job x) N Q) ≡ shift (Series (F .ring)) (polynomial job (x ++ y)) N Q
+  unfolding curveLeft
+  shift-left x [] = rw (append-nil x) refl
+  shift-left x (c ∷ y) =
+      rw (chosen-shift (F .ring) N (length x) (job .element c) (shift (Series (F .ring)) (polynomial job x) N Q), shift-shift (series (Φ .ring)) (polynomial job x) (mono (F .ring) (job .element c) (length x)) N Q, ← polynomial-snoc Φ job num x c, ← append-snoc x c y)
+      (shift-left (x ++ (c ∷ [])) y)
+
+  -- Q as the symbols x leave it is Q at y = g + y, where they form g
+  pub left-shift : Height (F .ring) N Q → (x : List ℕ) → curveLeft job N [] x Q ≡ shift (Series (F .ring)) (polynomial job x) N Q
+  left-shift tall x = ap (curveLeft job N [] x) (sym none) ∙ shift-left [] x
+    where
+      zeros : polynomial job [] ≡ zeroS (F .ring)
+      zeros = fun-ext (λ i. num .zero ∙ sym (zeroS-at (F .ring) i))
+
+      none : shift (Series (F .ring)) (polynomial job []) N Q ≡ Q
+      none = rw zeros (shift-none (series (Φ .ring)) N Q (height-below (F .ring) tall))
+
+  -- a symbol fits after the symbols x if and only if it passes the test that the search makes of it
+  pub level-fits : {u w s W : ℕ} → Height (F .ring) N Q → Lead (F .ring) u w s Q → w < W → (x : List ℕ) → length x ≤ u → (c : ℕ)
+      → Fits (F .ring) N (polynomial job x) (length x) Q (job .element c)
+      ↔ (value (F .ring) (job .element c) N (slice (F .ring) (length x) (lowest F N W (length x) (curveLeft job N [] x Q)) (curveLeft job N [] x Q)) ≡ F .ring .𝟘)
+  level-fits {u} {w} {s} {W} tall lead inside x iu c =
+      rw (left-shift tall x) (fits-slice Φ N W tall lead inside short iu (job .element c), slice-fits Φ N W tall lead inside short iu (job .element c))
+    where
+      short : Below (F .ring) (suc u) (polynomial job x)
+      short i l = polynomial-beyond job num x i (omega arith)

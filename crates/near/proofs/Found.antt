@@ -1,25 +1,21 @@
 -- The search finds exactly the wanted messages, in ascending order, if the curve vanishes along each of them. By induction on the symbols
 -- left: T is what the symbols chosen so far leave of Q, and every message that goes on from them and is a root passes the next test.
-use mathlib.Core.Path.{_≡_, refl, sym, ap, _∙_, fun-ext}
+use mathlib.Core.Path.{_≡_, refl, sym, ap, _∙_}
 use mathlib.Core.List.{List, [], _∷_, _++_, append-nil, List·Memᴰ·head, List·Memᴰ·not-nil, List·Memᴰ·eq-of-singleton}
 use Prim.Native.Nat.{ℕ, zero, suc, _≤_, _<_}
 use native.Mathlib.Omega.{arith}
 use native.Mathlib.Decide.{decLe}
 use lib.ListN.{length}
 use lib.Seq.{append-snoc}
-use Rattle.field.specs.Field.{Ring, RingLaws, Field, FieldLaws}
+use Rattle.field.specs.Field.{Ring, Field, FieldLaws}
 use Rattle.poly.specs.Polynomials.{Seq, zeroS, Series, value}
-use Rattle.poly.proofs.Series.{series, zeroS-at}
-use Rattle.poly.proofs.Shift.{shift, shift-shift, shift-none}
 use Rattle.rows.specs.Curves.{Curve, Height}
-use Rattle.rows.specs.Turns.{choose, mono}
-use Rattle.rows.proofs.Heights.{height-below}
+use Rattle.rows.specs.Turns.{choose}
 use Rattle.near.specs.Lists.{Task, Numbering, polynomial, agreements, Spelt, In, Before, Ascending, Wanted, IsList}
-use Rattle.near.specs.Search.{chosen, fits?, each, level, opened, found}
-use Rattle.near.proofs.Messages.{spelt-nil, spelt-cons, spell, polynomial-beyond, polynomial-append, polynomial-snoc}
+use Rattle.near.specs.Search.{chosen, fits?, each, curveLeft, level, opened, found}
+use Rattle.near.proofs.Messages.{spelt-nil, spelt-cons, spell, polynomial-beyond, polynomial-append}
 use Rattle.near.proofs.Lists.{in-each, each-in, ascending-each, before-append}
-use Rattle.near.proofs.Fitting.{root-fits}
-use Rattle.near.proofs.Passes.{chosen-shift}
+use Rattle.near.proofs.Fitting.{root-fits, level-next, left-shift}
 
 -- something only if the answer is yes
 module _ {A : Type 0} where
@@ -52,9 +48,6 @@ module _ {F : Field} (job : Task F) (N W : ℕ) where
 module _ {F : Field} (Φ : FieldLaws F) (job : Task F) (num : Numbering F (job .p) (job .element)) where
   abbrev R : Ring
   R = F .ring
-
-  abbrev L : RingLaws R
-  L = Φ .ring
 
   module _ (N W : ℕ) where
     -- what is found begins with x, goes on with `left` symbols, and has the agreements
@@ -92,23 +85,24 @@ module _ {F : Field} (Φ : FieldLaws F) (job : Task F) (num : Numbering F (job .
         order b c y z l g h = rw (g .is, h .is, append-snoc x b (g .after), append-snoc x c (h .after)) (before-append x (g .after) (h .after) l)
 
     -- a root of Q that begins with x and has the agreements is found
-    level-all : (Q : Curve R) (left : ℕ) (x y : List ℕ) → Spelt (job .p) left y → value (Series R) (polynomial job (x ++ y)) N Q ≡ zeroS R
-        → job .t ≤ agreements job (job .n) (polynomial job (x ++ y)) → In (x ++ y) (level job N W left x (shift (Series R) (polynomial job x) N Q))
-    level-all Q zero x [] s root le =
-        rw (level-zero job N W x (shift (Series R) (polynomial job x) N Q))
+    level-all : {Q : Curve R} → Height R N Q → (left : ℕ) (x y : List ℕ) → Spelt (job .p) left y → value (Series R) (polynomial job (x ++ y)) N Q ≡ zeroS R
+        → job .t ≤ agreements job (job .n) (polynomial job (x ++ y)) → In (x ++ y) (level job N W left x (curveLeft job N [] x Q))
+    level-all {Q} tall zero x [] s root le =
+        rw (level-zero job N W x (curveLeft job N [] x Q))
         (in-choose (decLe (job .t) (agreements job (job .n) (polynomial job x))) (rw (append-nil x) at le) (List·Memᴰ·head (append-nil x)))
-    level-all Q zero x (c ∷ y) s root le = let e = s .long in absurd (omega arith)
-    level-all Q (suc left) x [] s root le = let e = s .long in absurd (omega arith)
-    level-all Q (suc left) x (c ∷ y) s root le =
-        rw (level-suc job N W left x (shift (Series R) (polynomial job x) N Q))
-        (in-each (job .p) (branch job N W left x (shift (Series R) (polynomial job x) N Q)) (s .small 0 (omega arith))
-        (in-choose (fits? F N W (length x) (shift (Series R) (polynomial job x) N Q) (job .element c))
-        (root-fits Φ N W (polynomial job x) (polynomial job (c ∷ y)) (length x) Q (rw (← polynomial-append Φ job num x (c ∷ y)) root))
-        (rw (chosen-shift R N (length x) (job .element c) (shift (Series R) (polynomial job x) N Q), shift-shift (series L) (polynomial job x) (mono R (job .element c) (length x)) N Q, ← polynomial-snoc Φ job num x c, ← append-snoc x c y)
-        (level-all Q left (x ++ (c ∷ [])) y (record { long = let e = s .long in omega arith; small = λ i l. s .small (suc i) (omega arith) }) (rw (append-snoc x c y) root) (rw (append-snoc x c y) le)))))
+    level-all tall zero x (c ∷ y) s root le = let e = s .long in absurd (omega arith)
+    level-all tall (suc left) x [] s root le = let e = s .long in absurd (omega arith)
+    level-all {Q} tall (suc left) x (c ∷ y) s root le =
+        rw (level-suc job N W left x (curveLeft job N [] x Q))
+        (in-each (job .p) (branch job N W left x (curveLeft job N [] x Q)) (s .small 0 (omega arith))
+        (in-choose (fits? F N W (length x) (curveLeft job N [] x Q) (job .element c))
+        (rw (left-shift Φ job num N Q tall x) (root-fits Φ N W (polynomial job x) (polynomial job (c ∷ y)) (length x) Q (rw (← polynomial-append Φ job num x (c ∷ y)) root)))
+        (rw (level-next job N W left x c Q, ← append-snoc x c y)
+        (level-all tall left (x ++ (c ∷ [])) y (record { long = let e = s .long in omega arith; small = λ i l. s .small (suc i) (omega arith) }) (rw (append-snoc x c y) root) (rw (append-snoc x c y) le)))))
 
     -- the list, if Q vanishes along every wanted message
     pub found-list : (Q : Curve R) → Height R N Q → ((g : Seq R) → Wanted job g → value (Series R) g N Q ≡ zeroS R) → IsList job (found job N W Q)
+    unfolding curveLeft
     found-list Q tall roots =
         record {
           ascending = level-ascending (job .k) [] Q;
@@ -120,11 +114,7 @@ module _ {F : Field} (Φ : FieldLaws F) (job : Task F) (num : Numbering F (job .
         spelt : (x : List ℕ) → In x (found job N W Q) → Spelt (job .p) (job .k) x
         spelt x h = let g = level-goes (job .k) [] Q x h in rw (g .is) (g .spelt)
 
-        none : polynomial job [] ≡ zeroS R
-        none = fun-ext (λ i. num .zero ∙ sym (zeroS-at R i))
-
         all : (g : Seq R) → Wanted job g → (x : List ℕ) × In x (found job N W Q) × (polynomial job x ≡ g)
         all g want =
             let x = spell job num (job .k) g (want .degree) in
-            let T : shift (Series R) (polynomial job []) N Q ≡ Q = rw none (shift-none (series L) N Q (height-below R tall)) in
-            (x .0, rw T at (level-all Q (job .k) [] (x .0) (x .1) (ap (λ (f : Seq R). value (Series R) f N Q) (x .2) ∙ roots g want) (rw (x .2) (want .agrees))), x .2)
+            (x .0, level-all tall (job .k) [] (x .0) (x .1) (ap (λ (f : Seq R). value (Series R) f N Q) (x .2) ∙ roots g want) (rw (x .2) (want .agrees)), x .2)

@@ -3,12 +3,14 @@
 --   prefixed g i        g + x^i y
 --   Fits N g i Q c      c fits after the i symbols that form g: it is a root, at x = 0, of Q at y = g + x^i y divided by its highest power
 --                       of x
--- The search keeps one curve, T = Q at y = g + y, and reads from it which symbols fit (proofs/Fitting.antt).
+-- The search keeps one curve, T = Q at y = g + y, and reads from it which symbols fit (`level-fits`, proofs/Fitting.antt).
 --   chosen N i c T      T at y = c x^i + y: what T becomes when c is chosen as the symbol at x^i
 --   slice i v T         the coefficient of x^v in T at y = x^i y, as a polynomial in y
 --   lowest N W i T      the least v below W at which it is not zero
 --   fits? N W i T c     whether c is a root of it there
 --   each p f            f 0, .., f (p-1), one after the other
+--   curveLeft job N x y T      the curve T as the symbols y leave it, chosen one by one after x; `curveLeft job N [] x Q` is Q as the
+--                       symbols x leave it
 --   level job N W left x T     the messages found that begin with x, where T is what x leaves and `left` symbols are still to be chosen:
 --                       each next symbol is tried, and each fitting one opens the next level; at the end the agreements decide
 --   opened job N W left x T c  those found with c chosen after x
@@ -64,6 +66,11 @@ module _ (F : Field) where
 
   abbrev pub fits? : (N W i : ℕ) (T : Curve (F .ring)) (c : F .ring .Car) → Dec (value (F .ring) c N (slice (F .ring) i (lowest N W i T) T) ≡ F .ring .𝟘)
   fits? N W i T c = F .same? (value (F .ring) c N (slice (F .ring) i (lowest N W i T) T)) (F .ring .𝟘)
+
+module _ {F : Field} (job : Task F) (N : ℕ) where
+  unfoldable pub curveLeft : List ℕ → List ℕ → Curve (F .ring) → Curve (F .ring)
+  curveLeft x [] T = T
+  curveLeft x (c ∷ y) T = curveLeft (x ++ (c ∷ [])) y (chosen (F .ring) N (length x) (job .element c) T)
 
 module _ {F : Field} (job : Task F) (N W : ℕ) where
   unfoldable pub level : ℕ → List ℕ → Curve (F .ring) → List (List ℕ)
