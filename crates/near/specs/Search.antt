@@ -6,6 +6,8 @@
 -- The search keeps one curve, T = Q at y = g + y, and reads from it which symbols fit (`level-fits`, proofs/Fitting.antt).
 --   chosen N i c T      T at y = c x^i + y: what T becomes when c is chosen as the symbol at x^i
 --   slice i v T         the coefficient of x^v in T at y = x^i y, as a polynomial in y
+--   least W test        the least number below W that passes the test, or W
+--   some? N f           whether one of the first N coefficients is not zero
 --   lowest N W i T      the least v below W at which it is not zero
 --   fits? N W i T c     whether c is a root of it there
 --   each p f            f 0, .., f (p-1), one after the other
@@ -46,7 +48,6 @@ module _ (R : Ring) where
   unfoldable pub slice : ℕ → ℕ → Curve R → Seq R
   slice i v T j = choose (decLe (i * j) v) (T j (v - i * j)) (R .𝟘)
 
--- the least number below W that passes the test, or W
 unfoldable pub least : ℕ → (ℕ → Bool) → ℕ
 least zero test = 0
 least (suc W) test = elim (test 0) [ true ↦ 0 | false ↦ suc (least W (λ v. test (suc v))) ]
@@ -56,7 +57,6 @@ each zero f = []
 each (suc p) f = each p f ++ f p
 
 module _ (F : Field) where
-  -- whether one of the first N coefficients is not zero
   unfoldable pub some? : ℕ → Seq (F .ring) → Bool
   some? zero f = false
   some? (suc N) f = choose (F .same? (f N) (F .ring .𝟘)) (some? N f) true

@@ -16,16 +16,16 @@ use Rattle.text.proofs.Outcomes.{write-determined}
 use Rattle.program.specs.Program.{Answered, unread, listed}
 
 -- the messages are few and short, and all there
-record Fits (k : ℕ) (messages : List ℕ) (back : Near) : Type 0 where
+record Printable (k : ℕ) (messages : List ℕ) (back : Near) : Type 0 where
   few : back .count * (9 + 6 * k) ≤ 1512
   there : back .count * k ≤ length messages
 
-none-fits : {k : ℕ} {messages : List ℕ} {back : Near} → back .count ≡ 0 → Fits k messages back
-none-fits e = record { few = rw e (omega arith); there = rw e (omega arith) }
+none-printable : {k : ℕ} {messages : List ℕ} {back : Near} → back .count ≡ 0 → Printable k messages back
+none-printable e = record { few = rw e (omega arith); there = rw e (omega arith) }
 
 module _ {p : ℕ} {points word : List ℕ} {k m l t : ℕ} {lent before messages : List ℕ} {back : Near} where
-  lists-fits : {weight : ℕ} → Taken p points word k m l t lent before → Lists p points word k m l t weight before messages back → Fits k messages back
-  lists-fits a h =
+  lists-printable : {weight : ℕ} → Taken p points word k m l t lent before → Lists p points word k m l t weight before messages back → Printable k messages back
+  lists-printable a h =
       let few : back .count ≤ l = rw (h .count) (h .few) in
       let short : k ≤ 30 = omega arith in
       record {
@@ -33,19 +33,19 @@ module _ {p : ℕ} {points word : List ℕ} {k m l t : ℕ} {lent before message
         there = omega (arith, mul-le-mul {n₁ = back .count} {m₁ = k} {n₂ = l} {m₂ = k} (omega arith) (omega arith));
       }
 
-  answers-fits : {left : List ℕ} → Taken p points word k m l t lent before → Answers p points word k m l t lent left before messages back → Fits k messages back
-  answers-fits a h = go (decLt (h .smallest .weight) (m * t))
+  answers-printable : {left : List ℕ} → Taken p points word k m l t lent before → Answers p points word k m l t lent left before messages back → Printable k messages back
+  answers-printable a h = go (decLt (h .smallest .weight) (m * t))
     where
-      go : Dec (h .smallest .weight < m * t) → Fits k messages back
-      go (yes s) = lists-fits a (h .lists s)
-      go (no s) = none-fits (rw (h .unvouched (omega arith) .0))
+      go : Dec (h .smallest .weight < m * t) → Printable k messages back
+      go (yes s) = lists-printable a (h .lists s)
+      go (no s) = none-printable (rw (h .unvouched (omega arith) .0))
 
-  listed-fits : {left : List ℕ} → HasListed p points word k m l t lent left before messages back → Fits k messages back
-  listed-fits h = go (ℕ-discrete (h .entry) 0)
+  listed-printable : {left : List ℕ} → HasListed p points word k m l t lent left before messages back → Printable k messages back
+  listed-printable h = go (ℕ-discrete (h .entry) 0)
     where
-      go : Dec (h .entry ≡ 0) → Fits k messages back
-      go (yes z) = answers-fits (list-taken p points word k m l t lent before (subst (First (listTable p points word k m l t lent before)) z (h .first))) (h .answers z)
-      go (no z) = none-fits (rw (h .refused z .0))
+      go : Dec (h .entry ≡ 0) → Printable k messages back
+      go (yes z) = answers-printable (list-taken p points word k m l t lent before (subst (First (listTable p points word k m l t lent before)) z (h .first))) (h .answers z)
+      go (no z) = none-printable (rw (h .refused z .0))
 
 written-whole : {o : Reply} {before after : List ℕ} {r : ℕ} → HasWritten o before after r → room o ≤ length before → o .count * o .k ≤ length (o .messages)
     → (after ≡ answer o ++ drop (length (answer o)) before) × (r ≡ length (answer o))
@@ -57,6 +57,6 @@ answer-whole (unread none w) h =
     let e = written-whole w (omega arith) (omega arith) in
     (_, e .0, e .1)
 answer-whole (listed q p left messages back a w) h =
-    let f = listed-fits a in
+    let f = listed-printable a in
     let e = written-whole w (omega arith) (f .there) in
     (_, e .0, e .1)
