@@ -3,7 +3,7 @@ use mathlib.Core.Path.{_≡_, refl}
 use mathlib.Core.List.{List, [], _∷_}
 use Prim.Native.Nat.{ℕ}
 use Rattle.rows.specs.declared.Note.{Note}
-use Rattle.boards.specs.Lent.{noteOf, noteInto, backInto}
+use Rattle.boards.specs.Lent.{noteOf, noteInto, backInto, updatesOf}
 
 abbrev lent : List ℕ
 lent = 9 ∷ 9 ∷ 9 ∷ 9 ∷ 9 ∷ 9 ∷ 9 ∷ []
@@ -19,3 +19,6 @@ read-example = refl
 
 back-example : backInto (record { updates = 300; weight = 7; height = 3; count = 2 }) lent ≡ 44 ∷ 1 ∷ 7 ∷ 3 ∷ 2 ∷ 9 ∷ 9 ∷ []
 back-example = refl
+
+updates-example : updatesOf (44 ∷ 1 ∷ lent) ≡ 300
+updates-example = refl

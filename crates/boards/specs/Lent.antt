@@ -3,8 +3,9 @@
 --   noteOf xs               the note in the first bytes of xs: p, n, k, m, l, r
 --   noteInto note xs        xs with the note in its first bytes
 --   backInto back xs        xs with what is handed back in its first bytes: the updates, low byte first, the weight, the height, the count
+--   updatesOf xs            the updates in the first bytes of xs
 use mathlib.Core.List.{List, [], _∷_}
-use Prim.Native.Nat.{ℕ, _/_, _%_}
+use Prim.Native.Nat.{ℕ, _+_, _*_, _/_, _%_}
 use lib.ListN.{getD}
 use lib.Seq.{sets}
 use Rattle.rows.specs.declared.Note.{Note}
@@ -24,3 +25,6 @@ noteInto note xs = sets xs 0 (note .p ∷ note .n ∷ note .k ∷ note .m ∷ no
 
 abbrev pub backInto : Back → List ℕ → List ℕ
 backInto back xs = sets xs 0 (back .updates % 256 ∷ back .updates / 256 ∷ back .weight ∷ back .height ∷ back .count ∷ [])
+
+abbrev pub updatesOf : List ℕ → ℕ
+updatesOf xs = getD xs 0 0 + 256 * getD xs 1 0
