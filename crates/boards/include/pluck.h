@@ -7,7 +7,8 @@
    - A room is an address and a length in bytes. An address is never null, also where the length is 0. A room that a call may write
      overlaps no other that it is lent. A room may be longer than asked for: its excess is never written.
    - A call keeps nothing: all there is of an interpolation is its rows and its note, and both belong to the caller.
-   - Wherever `note` or `back` is too short the number is 9 before anything else, and nothing is touched. */
+   - `note` and `back` are lent rooms as any other: where one is too short the number is 9, at the place of 9 in the call's order. But a turn
+     and a finish cannot read a note that is too short: there 9 comes before anything else. */
 #ifndef PLUCK_H
 #define PLUCK_H
 
@@ -49,8 +50,9 @@ enum {
 /* A note: six bytes, in this order. The work is finished when r is l + 1. */
 enum { PLUCK_NOTE_P, PLUCK_NOTE_N, PLUCK_NOTE_K, PLUCK_NOTE_M, PLUCK_NOTE_L, PLUCK_NOTE_R, PLUCK_NOTE_BYTES };
 
-/* What a call hands back beside its number: five bytes, in this order. Each call that lends `back` writes all five, zero for what it
-   does not hand back. After a refusal all five are zero, but for the late 11 of a turn. */
+/* What a call hands back beside its number: five bytes, in this order. Each call that is lent `back` writes all five, zero for what it
+   does not hand back. After a refusal all five are zero, but for the late 11 of a turn. A `back` that is too short for five is not
+   written. */
 enum { PLUCK_BACK_UPDATES_LOW, PLUCK_BACK_UPDATES_HIGH, PLUCK_BACK_WEIGHT, PLUCK_BACK_HEIGHT, PLUCK_BACK_COUNT, PLUCK_BACK_BYTES };
 
 static inline uint16_t pluck_updates(const uint8_t *back) {
@@ -63,28 +65,30 @@ uint8_t pluck_encode(uint8_t p, const uint8_t *points, size_t points_len, const 
                      size_t word_len);
 
 /* Start: the rows become those that an interpolation begins with, and the note p, n, k, m, l and r = 1.
-   Refusals: 1, 2, 3, 4, 5, 6, 7, 9 (the rows have PLUCK_ROWS_BYTES). Writes PLUCK_ROWS_BYTES of the rows and the six bytes of the
-   note; after a refusal the rows are as they were and the note is six zeros. */
+   Refusals: 1, 2, 3, 4, 5, 6, 7, 9 (rows below PLUCK_ROWS_BYTES, a note below PLUCK_NOTE_BYTES). Writes PLUCK_ROWS_BYTES of the rows and
+   the six bytes of the note; after a refusal the rows are as they were and the note is six zeros. A note that is too short for six is
+   not written. */
 uint8_t pluck_start(uint8_t p, const uint8_t *points, size_t points_len, const uint8_t *word, size_t word_len, uint8_t k, uint8_t m, uint8_t l,
                     uint8_t *rows, size_t rows_len, uint8_t *note, size_t note_len);
 
 /* Turn: at most `allowance` updates, from the note's row on. Hands back the updates made, and the next note in the place of the note.
-   Refusals: 10, 9, 11. Writes PLUCK_ROWS_BYTES of the rows, the note's r, and `back`; after a refusal rows and note are as they were.
+   Refusals: 9 (a note below PLUCK_NOTE_BYTES), 10, 9 (rows below PLUCK_ROWS_BYTES, `back` below PLUCK_BACK_BYTES), 11. Writes
+   PLUCK_ROWS_BYTES of the rows, the note's r, and `back`; after a refusal rows and note are as they were.
    A turn also gives 11, later, when an update would make a row zero: that update is not made, and rows, note and updates are
    those just before it. From a start this never happens. */
 uint8_t pluck_turn(uint8_t *note, size_t note_len, uint8_t *rows, size_t rows_len, uint16_t allowance, uint8_t *back, size_t back_len);
 
 /* Finish: the row with the smallest leading term, made monic. Hands back its weight and height.
-   Refusals: 10, 9 (rows, or a curve with less than PLUCK_CURVE_BYTES), 12, 11. Writes PLUCK_CURVE_BYTES of the curve, and `back`; after
-   a refusal the curve is as it was. */
+   Refusals: 9 (a note below PLUCK_NOTE_BYTES), 10, 9 (rows below PLUCK_ROWS_BYTES, a curve below PLUCK_CURVE_BYTES, `back` below
+   PLUCK_BACK_BYTES), 12, 11. Writes PLUCK_CURVE_BYTES of the curve, and `back`; after a refusal the curve is as it was. */
 uint8_t pluck_finish(const uint8_t *note, size_t note_len, const uint8_t *rows, size_t rows_len, uint8_t *curve, size_t curve_len, uint8_t *back,
                      size_t back_len);
 
 /* List: all messages that agree with the word at t places or more, k symbols each with the constant first, in ascending order. Hands back
    their count (at most l), all updates made and the curve's weight. An empty list is number 0 with count 0.
-   Refusals: 1 to 9 in order (9: a room below PLUCK_ROOM_BYTES, messages below PLUCK_MESSAGES_BYTES), then 13. Leaves the first PLUCK_ROOM_BYTES
-   of the room zero, after 0 and after 13; writes count times k bytes of the messages, and `back`. After 1 to 9 room and messages
-   are as they were, after 13 the messages. */
+   Refusals: 1 to 9 in order (9: a room below PLUCK_ROOM_BYTES, messages below PLUCK_MESSAGES_BYTES, `back` below PLUCK_BACK_BYTES), then
+   13. Leaves the first PLUCK_ROOM_BYTES of the room zero, after 0 and after 13; writes count times k bytes of the messages, and `back`.
+   After 1 to 9 room and messages are as they were, after 13 the messages. */
 uint8_t pluck_list(uint8_t p, const uint8_t *points, size_t points_len, const uint8_t *word, size_t word_len, uint8_t k, uint8_t m, uint8_t l,
                    uint8_t t, uint8_t *room, size_t room_len, uint8_t *messages, size_t messages_len, uint8_t *back, size_t back_len);
 

@@ -1,10 +1,11 @@
 // The jobs for C: numbers pass as themselves, a slice as its address and its length. A note is six lent bytes, and what a job hands back
-// beside its number goes into five: include/pluck.h says the same to whoever calls.
+// beside its number goes into five: include/pluck.h says the same to whoever calls. Where one of the two is too short the job is asked with
+// no room at all: it refuses in its own order, at the latest with 9. A turn and a finish need the note for that, and give 9 without it.
 ghost use mathlib.Core.Path.{_≡_};
 ghost use Prim.Native.Nat.{_≤_};
 ghost use lib.ListN.{length};
 ghost use Rattle.poly.specs.Encode.{Encoded};
-ghost use Rattle.boards.specs.Lent.{noteBytes, backBytes, noteOf, noteInto, backInto};
+ghost use Rattle.boards.specs.Lent.{noteBytes, backBytes, noteOf, noteInto, backInto, Cleared};
 ghost use Rattle.boards.specs.Calls.{StartCall, TurnCall, FinishCall, ListCall};
 use rows::Note;
 
@@ -57,6 +58,24 @@ fn write_back(bytes: &mut [u8], back: Back)
     bytes[4] = back.count;
 }
 
+// Five zeros where there is room for them: nothing of an earlier call is left to be taken for this one's.
+fn clear_back(bytes: &mut [u8])
+    ensures { λ _. ⌜ Cleared (now (bytes .entry)) (now (bytes .exit)) ⌝ }
+{
+    if bytes.len() < BACK_BYTES {
+        return;
+    }
+    write_back(
+        bytes,
+        Back {
+            updates: 0,
+            weight: 0,
+            height: 0,
+            count: 0,
+        },
+    );
+}
+
 #[no_mangle]
 pub extern "C" fn pluck_encode(p: u8, points: &[u8], message: &[u8], word: &mut [u8]) -> u8
     ensures { λ number. ⌜ Encoded p (now (points .entry)) (now (message .entry)) (now (word .entry)) (now (word .exit)) number ⌝ }
@@ -78,7 +97,7 @@ pub extern "C" fn pluck_start(
     ensures { λ number. ⌜ StartCall p (now (points .entry)) (now (word .entry)) k m l (now (rows .entry)) (now (rows .exit)) (now (note .entry)) (now (note .exit)) number ⌝ }
 {
     if note.len() < NOTE_BYTES {
-        return 9;
+        return rows::start(p, points, word, k, m, l, &mut []).number;
     }
     let started = rows::start(p, points, word, k, m, l, rows);
     write_note(note, started.note);
@@ -95,10 +114,11 @@ pub extern "C" fn pluck_turn(
     ensures { λ number. ⌜ TurnCall allowance (now (note .entry)) (now (note .exit)) (now (rows .entry)) (now (rows .exit)) (now (back .entry)) (now (back .exit)) number ⌝ }
 {
     if note.len() < NOTE_BYTES {
+        clear_back(back);
         return 9;
     }
     if back.len() < BACK_BYTES {
-        return 9;
+        return read_note(note).turn(&mut [], allowance).number;
     }
     let turned = read_note(note).turn(rows, allowance);
     write_note(note, turned.note);
@@ -119,10 +139,11 @@ pub extern "C" fn pluck_finish(note: &[u8], rows: &[u8], curve: &mut [u8], back:
     ensures { λ number. ⌜ FinishCall (now (note .entry)) (now (rows .entry)) (now (curve .entry)) (now (curve .exit)) (now (back .entry)) (now (back .exit)) number ⌝ }
 {
     if note.len() < NOTE_BYTES {
+        clear_back(back);
         return 9;
     }
     if back.len() < BACK_BYTES {
-        return 9;
+        return rows::finish(read_note(note), rows, &mut []).number;
     }
     let finished = rows::finish(read_note(note), rows, curve);
     write_back(
@@ -153,7 +174,7 @@ pub extern "C" fn pluck_list(
     ensures { λ number. ⌜ ListCall p (now (points .entry)) (now (word .entry)) k m l t (now (room .entry)) (now (room .exit)) (now (messages .entry)) (now (messages .exit)) (now (back .entry)) (now (back .exit)) number ⌝ }
 {
     if back.len() < BACK_BYTES {
-        return 9;
+        return near::list(p, points, word, k, m, l, t, &mut [], &mut []).number;
     }
     let near = near::list(p, points, word, k, m, l, t, room, messages);
     write_back(

@@ -1,31 +1,56 @@
 -- `pluck_finish` meets its contract: the job's own, on the note read from the lent bytes, and its answer in them.
 use mathlib.Core.Path.{refl}
-use mathlib.Core.Logic.{inl, inr}
 use Rattle.boards.specs.Calls.{FinishCall}
 use borrow.Author.Needs.{needs}
 use Rattle.boards.proofs.pluck_finish.Statement.{statement}
 use Rattle.boards.proofs.pluck_finish.Tie as tie
 
-returns : tie.Need-returns
-returns c = FinishCall.short (inl (c .if1 .taken)) refl refl refl
-
-returns-2 : tie.Need-returns-2
-returns-2 c = FinishCall.short (inr (c .if2 .taken)) refl refl refl
-
-read-note-requires : tie.Need-read-note-requires
-read-note-requires c κs = search needs
-
-finish-requires : tie.Need-finish-requires
-finish-requires c κs = search needs
-
-write-back-requires : tie.Need-write-back-requires
-write-back-requires c κs = search needs
+clear-back-requires : tie.Need-clear-back-requires
+clear-back-requires c κs = search needs
 
 same-length : tie.Need-same-length
 same-length c = search needs
 
+returns : tie.Need-returns
+returns c =
+    let cleared = c .before .before in
+    FinishCall.short-note (cleared .before .before .if1 .taken) refl refl (cleared .clear-back .ensures)
+
+read-note-requires : tie.Need-read-note-requires
+read-note-requires c κs = search needs
+
+slice-aggregate-finish : tie.Need-slice-aggregate-finish
+slice-aggregate-finish c = search needs
+
+finish-requires : tie.Need-finish-requires
+finish-requires c κs = search needs
+
+returns-2 : tie.Need-returns-2
+returns-2 c =
+    let refused = c .before in
+    let read = refused .before .before in
+    let short = read .before in
+    FinishCall.short-back
+    (short .before .if1 .left)
+    (short .if2 .taken)
+    (rw (read .read-note .ensures) at (refused .finish .ensures .first))
+    refl
+    refl
+
+read-note-requires-2 : tie.Need-read-note-requires-2
+read-note-requires-2 c κs = search needs
+
+finish-requires-2 : tie.Need-finish-requires-2
+finish-requires-2 c κs = search needs
+
+write-back-requires : tie.Need-write-back-requires
+write-back-requires c κs = search needs
+
 same-length-2 : tie.Need-same-length-2
 same-length-2 c = search needs
+
+same-length-3 : tie.Need-same-length-3
+same-length-3 c = search needs
 
 returns-3 : tie.Need-returns-3
 returns-3 c =
@@ -36,8 +61,8 @@ returns-3 c =
     FinishCall.done
     (long .before .if1 .left)
     (long .if2 .left)
-    (finished .finish .result)
-    (rw (read .read-note .ensures) at (finished .finish .ensures))
+    (finished .finish2 .result)
+    (rw (read .read-note2 .ensures) at (finished .finish2 .ensures))
     refl
     (answered .write-back .ensures)
 
@@ -45,11 +70,16 @@ pub pluck-finish-spec : {M : Type 1} → statement M
 pluck-finish-spec =
     tie.close
     (tie.spec
-    returns
-    returns-2
-    read-note-requires
-    finish-requires
-    write-back-requires
+    clear-back-requires
     same-length
+    returns
+    read-note-requires
+    slice-aggregate-finish
+    finish-requires
+    returns-2
+    read-note-requires-2
+    finish-requires-2
+    write-back-requires
     same-length-2
+    same-length-3
     returns-3)

@@ -1,15 +1,27 @@
 -- `pluck_list` meets its contract: the job's own contract, and its answer in the lent bytes.
 use mathlib.Core.Path.{refl}
 use Rattle.boards.specs.Calls.{ListCall}
+use Rattle.boards.proofs.Refusing.{list-refused}
 use borrow.Author.Needs.{needs}
 use Rattle.boards.proofs.pluck_list.Statement.{statement}
 use Rattle.boards.proofs.pluck_list.Tie as tie
 
-returns : tie.Need-returns
-returns c = ListCall.short (c .if1 .taken) refl refl refl refl
+slice-aggregate-list : tie.Need-slice-aggregate-list
+slice-aggregate-list c = search needs
+
+slice-aggregate-list-2 : tie.Need-slice-aggregate-list-2
+slice-aggregate-list-2 c = search needs
 
 list-requires : tie.Need-list-requires
 list-requires c κs = search needs
+
+returns : tie.Need-returns
+returns c =
+    let refused = c .before .before in
+    ListCall.short-back (refused .before .before .before .if1 .taken) (list-refused (refused .list .ensures)) refl refl refl
+
+list-requires-2 : tie.Need-list-requires-2
+list-requires-2 c κs = search needs
 
 write-back-requires : tie.Need-write-back-requires
 write-back-requires c κs = search needs
@@ -29,8 +41,8 @@ returns-2 c =
     let listed = answered .before .before .before .before .before .before in
     ListCall.done
     (listed .before .before .before .if1 .left)
-    (listed .list .result)
-    (listed .list .ensures)
+    (listed .list2 .result)
+    (listed .list2 .ensures)
     refl
     (answered .write-back .ensures)
 
@@ -38,8 +50,11 @@ pub pluck-list-spec : {M : Type 1} → statement M
 pluck-list-spec =
     tie.close
     (tie.spec
-    returns
+    slice-aggregate-list
+    slice-aggregate-list-2
     list-requires
+    returns
+    list-requires-2
     write-back-requires
     same-length
     same-length-2

@@ -5,11 +5,19 @@ use borrow.Author.Needs.{needs}
 use Rattle.boards.proofs.pluck_start.Statement.{statement}
 use Rattle.boards.proofs.pluck_start.Tie as tie
 
-returns : tie.Need-returns
-returns c = StartCall.short (c .if1 .taken) refl refl refl
+slice-aggregate-start : tie.Need-slice-aggregate-start
+slice-aggregate-start c = search needs
 
 start-requires : tie.Need-start-requires
 start-requires c κs = search needs
+
+returns : tie.Need-returns
+returns c =
+    let refused = c .before in
+    StartCall.short-note (refused .before .before .if1 .taken) (refused .start .ensures .first) refl refl
+
+start-requires-2 : tie.Need-start-requires-2
+start-requires-2 c κs = search needs
 
 write-note-requires : tie.Need-write-note-requires
 write-note-requires c κs = search needs
@@ -26,12 +34,20 @@ returns-2 c =
     let started = noted .before .before .before .before in
     StartCall.done
     (started .before .before .if1 .left)
-    (started .start .result)
-    (started .start .ensures)
+    (started .start2 .result)
+    (started .start2 .ensures)
     refl
     (noted .write-note .ensures)
 
 pub pluck-start-spec : {M : Type 1} → statement M
 pluck-start-spec =
     tie.close
-    (tie.spec returns start-requires write-note-requires same-length same-length-2 returns-2)
+    (tie.spec
+    slice-aggregate-start
+    start-requires
+    returns
+    start-requires-2
+    write-note-requires
+    same-length
+    same-length-2
+    returns-2)

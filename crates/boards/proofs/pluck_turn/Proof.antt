@@ -1,22 +1,52 @@
 -- `pluck_turn` meets its contract: the job's own, on the note read from the lent bytes, and its answer in them.
 use mathlib.Core.Path.{refl}
-use mathlib.Core.Logic.{inl, inr}
 use Rattle.boards.specs.Calls.{TurnCall}
+use Rattle.boards.proofs.Refusing.{turn-refused}
 use borrow.Author.Needs.{needs}
 use Rattle.boards.proofs.pluck_turn.Statement.{statement}
 use Rattle.boards.proofs.pluck_turn.Tie as tie
 
-returns : tie.Need-returns
-returns c = TurnCall.short (inl (c .if1 .taken)) refl refl refl refl
+clear-back-requires : tie.Need-clear-back-requires
+clear-back-requires c κs = search needs
 
-returns-2 : tie.Need-returns-2
-returns-2 c = TurnCall.short (inr (c .if2 .taken)) refl refl refl refl
+same-length : tie.Need-same-length
+same-length c = search needs
+
+returns : tie.Need-returns
+returns c =
+    let cleared = c .before .before in
+    TurnCall.short-note (cleared .before .before .if1 .taken) refl refl refl (cleared .clear-back .ensures)
 
 read-note-requires : tie.Need-read-note-requires
 read-note-requires c κs = search needs
 
+slice-aggregate-turn : tie.Need-slice-aggregate-turn
+slice-aggregate-turn c = search needs
+
 turn-requires : tie.Need-turn-requires
 turn-requires c κs = search needs
+
+same-length-2 : tie.Need-same-length-2
+same-length-2 c = search needs
+
+returns-2 : tie.Need-returns-2
+returns-2 c =
+    let refused = c .before in
+    let read = refused .before .before in
+    let short = read .before .before in
+    TurnCall.short-back
+    (short .before .if1 .left)
+    (short .if2 .taken)
+    (turn-refused (rw (read .read-note .ensures) at (refused .turn .ensures)))
+    refl
+    refl
+    refl
+
+read-note-requires-2 : tie.Need-read-note-requires-2
+read-note-requires-2 c κs = search needs
+
+turn-requires-2 : tie.Need-turn-requires-2
+turn-requires-2 c κs = search needs
 
 write-note-requires : tie.Need-write-note-requires
 write-note-requires c κs = search needs
@@ -24,14 +54,14 @@ write-note-requires c κs = search needs
 write-back-requires : tie.Need-write-back-requires
 write-back-requires c κs = search needs
 
-same-length : tie.Need-same-length
-same-length c = search needs
-
-same-length-2 : tie.Need-same-length-2
-same-length-2 c = search needs
-
 same-length-3 : tie.Need-same-length-3
 same-length-3 c = search needs
+
+same-length-4 : tie.Need-same-length-4
+same-length-4 c = search needs
+
+same-length-5 : tie.Need-same-length-5
+same-length-5 c = search needs
 
 returns-3 : tie.Need-returns-3
 returns-3 c =
@@ -43,8 +73,8 @@ returns-3 c =
     TurnCall.done
     (long .before .if1 .left)
     (long .if2 .left)
-    (turned .turn .result)
-    (rw (read .read-note .ensures) at (turned .turn .ensures))
+    (turned .turn2 .result)
+    (rw (read .read-note2 .ensures) at (turned .turn2 .ensures))
     refl
     (noted .write-note .ensures)
     (answered .write-back .ensures)
@@ -53,13 +83,19 @@ pub pluck-turn-spec : {M : Type 1} → statement M
 pluck-turn-spec =
     tie.close
     (tie.spec
+    clear-back-requires
+    same-length
     returns
-    returns-2
     read-note-requires
+    slice-aggregate-turn
     turn-requires
+    same-length-2
+    returns-2
+    read-note-requires-2
+    turn-requires-2
     write-note-requires
     write-back-requires
-    same-length
-    same-length-2
     same-length-3
+    same-length-4
+    same-length-5
     returns-3)
