@@ -1,3 +1,3 @@
-pub mod Outcomes
+pub mod Determined
 pub mod Driving
 pub mod Refusing

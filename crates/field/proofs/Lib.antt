@@ -9,3 +9,4 @@ pub mod OperationLaws
 pub mod ReciprocalLaws
 pub mod KernelLaws
 pub mod Convolutions
+pub mod Choices

@@ -173,7 +173,7 @@ module _ {p : ℕ} (l : Listed p) where
   one≢zero : symbol p 1 ≢ symbol p 0
   one≢zero = symbol-nonzero p (omega (arith, l .large)) (λ e. omega arith)
 
-  -- document 01: the inverse of 0 is 0
+  -- the inverse of 0 is given as 0
   pub inverse-zero : inverseOf p (symbol p 0) ≡ symbol p 0
   unfolding inverseOf symbol
   inverse-zero = at-listed (λ p. inverseOf p (symbol p 0) ≡ symbol p 0) refl refl refl refl refl refl refl refl refl refl p (l .listed)

@@ -3,3 +3,4 @@ pub mod Lists
 pub mod Symbols
 pub mod Operations
 pub mod Kernels
+pub mod Choices

@@ -13,29 +13,31 @@ use Rattle.field.specs.Symbols.{symbols, symbolsOf}
 use Rattle.field.proofs.SymbolLaws.{symbols-field, zero-byte}
 use Rattle.poly.specs.Polynomials.{Seq, Through, locator}
 use Rattle.poly.proofs.Interpolating.{places-distinct}
-use Rattle.rows.specs.Curves.{Curve, Smallest}
-use Rattle.rows.specs.Start.{startRow}
-use Rattle.rows.specs.Turns.{Outcome, Turn}
-use Rattle.rows.specs.Entry.{Sound}
-use Rattle.rows.proofs.Promises.{Fresh, none, turn}
-use Rattle.rows.specs.Finish.{Lightest, monic}
+use Rattle.curves.specs.Curves.{Curve, Smallest}
+use Rattle.curves.specs.Start.{startRow}
+use Rattle.curves.specs.Turns.{Outcome, Turn}
+use Rattle.curves.specs.Entry.{Sound}
+use Rattle.curves.specs.Finish.{Lightest, monic}
+use Rattle.curves.specs.Curves.{HasHeight}
+use Rattle.curves.proofs.Promises.{Fresh, none, turn}
+use Rattle.curves.proofs.Leads.{lead-unique}
+use Rattle.curves.proofs.Heights.{height-unique}
+use Rattle.curves.proofs.Least.{monic-lead, weight-unique}
+use Rattle.curves.proofs.Determined.{rule-determined}
+use Rattle.curves.proofs.Turns.{turn-keeps}
+use Rattle.curves.proofs.StartRows.{start-fresh}
+use Rattle.curves.proofs.FlatRows.{turn-flat}
+use Rattle.curves.proofs.Runs.{fresh-enters}
+use Rattle.curves.proofs.Passing.{begins-start, run-smallest}
 use Rattle.rows.specs.Bytes.{slot, curveBytes, rowsOf, HoldsCurve}
-use Rattle.rows.specs.Jobs.{HasTurned, Goes, HasHeight}
+use Rattle.rows.specs.Jobs.{HasTurned, Goes}
 use Rattle.rows.specs.Demands.{Request, ringFor, shapeFor, noteFor, updatesBound, Member, Begun, HandsCurve, started}
 use Rattle.rows.specs.declared.Shape.{Shape}
-use Rattle.rows.proofs.Leads.{lead-unique}
-use Rattle.rows.proofs.Least.{monic-lead, weight-unique}
-use Rattle.rows.proofs.Turns.{turn-determined, turn-keeps}
-use Rattle.rows.proofs.StartRows.{start-fresh}
-use Rattle.rows.proofs.Places.{in-curve}
-use Rattle.rows.proofs.Boxes.{holds-row, holds-flat, rowsOf-flat, turn-flat}
-use Rattle.rows.proofs.Runs.{fresh-enters}
+use Rattle.rows.proofs.Placing.{in-curve}
+use Rattle.rows.proofs.HeldRows.{holds-row, holds-flat, rowsOf-flat}
 use Rattle.rows.proofs.Accepted.{Accepted, start-accepted}
-use Rattle.rows.proofs.Passing.{begins-start, run-smallest}
 use Rattle.rows.proofs.Demands.{demand-2, demand-3}
-use Rattle.rows.proofs.Starting.{started-same}
-use Rattle.rows.proofs.Turning.{turned-same}
-use Rattle.rows.proofs.Finishing.{height-unique, finished-same}
+use Rattle.rows.proofs.Determined.{started-same, turned-same, finished-same}
 use Rattle.figures.specs.Figures.{Calls, Gives}
 
 module _ (q : Request) where
@@ -130,7 +132,7 @@ module _ {q : Request} (c : Calls q) (ok : c .start .number ≡ 0) where
     worked-turn = z .turn (c .allowance) (c .enough) rows at-start
 
     outcome : calls-go .outcome ≡ record { number = 0; rows = z .left rows; row = suc (q .l); updates = made }
-    outcome = turn-determined (calls-go .turn) worked-turn
+    outcome = rule-determined (calls-go .turn) worked-turn
 
     turned : c .turn ≡ record { number = 0; note = noteFor q (suc (q .l)); updates = made }
     turned =
@@ -158,7 +160,7 @@ module _ {q : Request} (c : Calls q) (ok : c .start .number ≡ 0) where
     same : calls-hand .Q ≡ curveFor calls-accepted z
     same = sym (calls-hand .only (curveFor calls-accepted z) smallest)
 
-    height : HasHeight (q .p) (curveFor calls-accepted z) (q .l)
+    height : HasHeight (symbols (q .p) .ring) (curveFor calls-accepted z) (q .l)
     height =
         record {
           above = smallest .member .height;
@@ -170,6 +172,6 @@ module _ {q : Request} (c : Calls q) (ok : c .start .number ≡ 0) where
         record {
           start = started-same ok (c .starts .note ok);
           turn = turned;
-          finish = finished-same (calls-hand .done) (calls-hand .weight ∙ weight-unique (calls-hand .smallest) smallest ∙ worked-smallest calls-accepted z .1) (height-unique (rw same at (calls-hand .height)) height);
+          finish = finished-same (calls-hand .done) (calls-hand .weight ∙ weight-unique (calls-hand .smallest) smallest ∙ worked-smallest calls-accepted z .1) (height-unique _ (rw same at (calls-hand .height)) height);
           curve = let r = c .curve-room in let l = c .finishes .rest .long in curve-bytes (shapeFor q) (curveFor calls-accepted z) (c .curve) bytes (omega arith) (z .long) (rw same at (calls-hand .bytes)) (z .holds);
         }

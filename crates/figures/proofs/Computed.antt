@@ -15,7 +15,7 @@ use Rattle.poly.specs.Polynomials.{value, Distinct, Through}
 use Rattle.poly.specs.Table.{Repeated}
 use Rattle.poly.specs.Buffers.{AllBelow, Places}
 use Rattle.poly.proofs.Interpolating.{places-distinct}
-use Rattle.rows.specs.Curves.{Curve}
+use Rattle.curves.specs.Curves.{Curve}
 use Rattle.rows.specs.Bytes.{slot, rowsBytes, HoldsCurve}
 use Rattle.rows.specs.Demands.{shapeFor}
 use Rattle.rows.specs.declared.Shape.{Shape}

@@ -9,11 +9,12 @@ use lib.Seq.{ext-getD}
 use Rattle.field.specs.Field.{Field}
 use Rattle.field.specs.Symbols.{Element, symbol, symbols, symbolsOf}
 use Rattle.poly.specs.Polynomials.{Seq, value}
+use Rattle.poly.specs.Limits.{workingRoom}
 use Rattle.poly.proofs.Evaluation.{value-more}
 use Rattle.poly.proofs.TableLaws.{first-determined}
-use Rattle.rows.proofs.Least.{weight-unique}
-use Rattle.near.specs.Lists.{Task, task, one, polynomial, In, agreements, Wanted}
-use Rattle.near.specs.Job.{workingRoom, listTable, refusal, RuleUpdates, Answers, HasListed}
+use Rattle.curves.proofs.Least.{weight-unique}
+use Rattle.near.specs.Lists.{Task, one, polynomial, In, agreements, Wanted}
+use Rattle.near.specs.Job.{taskOf, listTable, refusal, RuleUpdates, Answers, HasListed}
 use Rattle.near.specs.declared.Near.{Near}
 use Rattle.near.proofs.Determined.{updates-unique, near-same}
 use Rattle.near.proofs.Agreements.{agrees?, agreements-zero, agreements-suc}
@@ -24,44 +25,44 @@ use Rattle.figures.proofs.Calls.{startFor, worked-smallest}
 use Rattle.figures.proofs.Word001.{h, h-is, formula-is-one, worked-0-0-1}
 
 -- n agreements at n places are one at each
-module _ {F : Field} (job : Task F) (g : Seq (F .ring)) where
+module _ {F : Field} (task : Task F) (g : Seq (F .ring)) where
   abbrev Agrees : ℕ → Type 0
-  Agrees s = value (F .ring) (job .point s) (job .k) g ≡ job .received s
+  Agrees s = value (F .ring) (task .point s) (task .k) g ≡ task .received s
 
   one-most : {A : Type 0} (d : Dec A) → one d ≤ 1
   one-most (yes h) = omega arith
   one-most (no h) = omega arith
 
-  agreements-most : (n : ℕ) → agreements job n g ≤ n
-  agreements-most zero = rw (agreements-zero job g) zero-le
-  agreements-most (suc n) = let a = agreements-most n in let b = one-most (agrees? job g n) in omega (arith, agreements-suc job g n)
+  agreements-most : (n : ℕ) → agreements task n g ≤ n
+  agreements-most zero = rw (agreements-zero task g) zero-le
+  agreements-most (suc n) = let a = agreements-most n in let b = one-most (agrees? task g n) in omega (arith, agreements-suc task g n)
 
-  agreements-all : (n : ℕ) → n ≤ agreements job n g → (s : ℕ) → s < n → Agrees s
+  agreements-all : (n : ℕ) → n ≤ agreements task n g → (s : ℕ) → s < n → Agrees s
   agreements-all zero le s h = absurd (omega arith)
-  agreements-all (suc n) le s h = go (agrees? job g n) (rw (agreements-suc job g n) at le) (ℕ-discrete s n) (λ a k. agreements-all n a s k)
+  agreements-all (suc n) le s h = go (agrees? task g n) (rw (agreements-suc task g n) at le) (ℕ-discrete s n) (λ a k. agreements-all n a s k)
     where
-      go : (d : Dec (Agrees n)) → suc n ≤ agreements job n g + one d → Dec (s ≡ n) → (n ≤ agreements job n g → s < n → Agrees s) → Agrees s
+      go : (d : Dec (Agrees n)) → suc n ≤ agreements task n g + one d → Dec (s ≡ n) → (n ≤ agreements task n g → s < n → Agrees s) → Agrees s
       go (yes e) le (yes q) more = rw q e
       go (yes e) le (no q) more = more (omega arith) (omega arith)
       go (no e) le q more = let m = agreements-most n in absurd (omega arith)
 
-abbrev job : Task (symbols 7)
-job = task 7 three word-0-0-1 2 3
+abbrev task : Task (symbols 7)
+task = taskOf 7 three word-0-0-1 2 3
 
 -- a message has no x^2, and h has 4 x^2
-nobody : (g : Seq (symbols 7 .ring)) → Wanted job g → ⊥
+nobody : (g : Seq (symbols 7 .ring)) → Wanted task g → ⊥
 unfolding symbol
 nobody g want =
     let same : g ≡ h = h-is g .0 (record {
       short = λ i l. want .degree i (omega arith);
-      hits = λ s l. value-more (seven-laws .ring) (symbolsOf 7 three s) 2 3 g (want .degree) (omega arith) ∙ agreements-all job g 3 (want .agrees) s l;
+      hits = λ s l. value-more (seven-laws .ring) (symbolsOf 7 three s) 2 3 g (want .degree) (omega arith) ∙ agreements-all task g 3 (want .agrees) s l;
     }) in
     let e : _≡_ {A = ℕ} 4 0 = ap (λ (x : Element 7). x .byte) (ap (λ (f : Seq (symbols 7 .ring)). f 2) (sym same) ∙ want .degree 2 (omega arith)) in
     omega arith
 
-empty : (list : List (List ℕ)) → ((x : List ℕ) → In x list → Wanted job (polynomial job x)) → list ≡ []
+empty : (list : List (List ℕ)) → ((x : List ℕ) → In x list → Wanted task (polynomial task x)) → list ≡ []
 empty [] wanted = refl
-empty (x ∷ list) wanted = absurd (nobody (polynomial job x) (wanted x (List·Memᴰ·head refl)))
+empty (x ∷ list) wanted = absurd (nobody (polynomial task x) (wanted x (List·Memᴰ·head refl)))
 
 -- an answer, whose curve weighs 2
 told : {t : ℕ} {room zeroed before after : List ℕ} {back : Near} → 1 ≤ t → t ≤ 3 → workingRoom ≤ length room → 2 ≤ length before

@@ -9,11 +9,11 @@ use borrow.Author.Needs.{needs}
 use Rattle.field.specs.Symbols.{Listed, listed}
 use Rattle.poly.specs.Table.{First, BadHeights}
 use Rattle.poly.specs.Encode.{encodeTable}
+use Rattle.poly.specs.Limits.{workingRoom}
 use Rattle.poly.proofs.TableLaws.{first-determined, first-goes, none-large, good-count, good-degree}
-use Rattle.rows.specs.Jobs.{startTable}
-use Rattle.rows.specs.Work.{requestTable}
+use Rattle.rows.specs.Jobs.{startTable, requestTable}
 use Rattle.rows.proofs.Accepted.{Accepted}
-use Rattle.near.specs.Job.{workingRoom, listTable}
+use Rattle.near.specs.Job.{listTable}
 use Rattle.near.specs.declared.Near.{Near}
 use Rattle.figures.specs.Figures.{EncodeGives, Refused}
 use Rattle.figures.proofs.Computed.{seven}

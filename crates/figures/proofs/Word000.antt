@@ -6,17 +6,17 @@ use native.Mathlib.Decide.{decLe, ℕ-discrete}
 use native.Mathlib.Omega.{arith}
 use Rattle.field.specs.Field.{Ring, pow, prod, Field}
 use Rattle.field.specs.Symbols.{symbol, symbols, sumOf, productOf, negativeOf, inverseOf, sameSymbol, symbolsOf}
-use Rattle.poly.specs.Polynomials.{Seq, zeroS, oneS, addS, negS, scaleS, mulS, consS, constS, xS, lin, value}
-use Rattle.rows.specs.Curves.{Curve, Lead}
-use Rattle.rows.specs.Start.{startRow}
-use Rattle.rows.specs.Turns.{mono, finished, rises}
-use Rattle.rows.specs.Entry.{Sound}
-use Rattle.rows.specs.Finish.{monic}
+use Rattle.poly.specs.Polynomials.{Seq, zeroS, oneS, addS, negS, scaleS, mulS, consS, constS, xS, lin, value, mono}
+use Rattle.curves.specs.Curves.{Curve, Lead}
+use Rattle.curves.specs.Start.{startRow}
+use Rattle.curves.specs.Turns.{finished, rises}
+use Rattle.curves.specs.Entry.{Sound}
+use Rattle.curves.specs.Finish.{monic}
+use Rattle.curves.proofs.Leads.{found, seek, look, pick, lead-found}
+use Rattle.curves.proofs.Least.{lightest-one, lightest-new}
+use Rattle.curves.proofs.StartRows.{start-first, start-sound}
 use Rattle.rows.specs.Bytes.{HoldsCurve}
 use Rattle.rows.specs.Demands.{Request, shapeFor}
-use Rattle.rows.proofs.Leads.{found, seek, look, pick, lead-found}
-use Rattle.rows.proofs.Least.{lightest-one, lightest-new}
-use Rattle.rows.proofs.StartRows.{start-first, start-sound}
 use Rattle.figures.specs.Figures.{three, atThree}
 use Rattle.figures.proofs.Computed.{seven-laws, through, holds-curve}
 use Rattle.figures.proofs.Calls.{Interpolates, startFor, AtStart, Worked}

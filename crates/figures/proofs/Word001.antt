@@ -8,21 +8,22 @@ use native.Mathlib.Decide.{decLe, ℕ-discrete}
 use native.Mathlib.Omega.{arith}
 use Rattle.field.specs.Field.{Ring, pow, prod, Field}
 use Rattle.field.specs.Symbols.{Element, symbol, symbols, sumOf, productOf, negativeOf, inverseOf, sameSymbol, symbolsOf}
-use Rattle.poly.specs.Polynomials.{Seq, zeroS, oneS, addS, negS, scaleS, mulS, consS, constS, xS, lin, value}
-use Rattle.poly.proofs.Places.{distinct-apart}
+use Rattle.field.specs.Choices.{put}
+use Rattle.poly.specs.Polynomials.{Seq, zeroS, oneS, addS, negS, scaleS, mulS, consS, constS, xS, lin, value, mono}
+use Rattle.poly.proofs.CoprimePowers.{distinct-apart}
 use Rattle.poly.proofs.Interpolation.{interpolant-unique}
-use Rattle.rows.specs.Curves.{Curve, Zero, Lead}
-use Rattle.rows.specs.Start.{startRow, total}
-use Rattle.rows.specs.Turns.{put, mono, cross, ratio, update, Due, Turn, finished, rises, updates}
-use Rattle.rows.specs.Entry.{Sound}
-use Rattle.rows.specs.Finish.{monic}
+use Rattle.curves.specs.Curves.{Curve, Zero, Lead}
+use Rattle.curves.specs.Start.{startRow, total}
+use Rattle.curves.specs.Turns.{cross, ratio, update, Due, Turn, finished, rises, updates}
+use Rattle.curves.specs.Entry.{Sound}
+use Rattle.curves.specs.Finish.{monic}
+use Rattle.curves.proofs.Leads.{seek, look, pick, lead-found}
+use Rattle.curves.proofs.Entry.{sound-update}
+use Rattle.curves.proofs.Updates.{update-lead}
+use Rattle.curves.proofs.Least.{lightest-one, lightest-stays}
+use Rattle.curves.proofs.StartRows.{start-first, start-sound}
 use Rattle.rows.specs.Bytes.{HoldsCurve}
 use Rattle.rows.specs.Demands.{Request, shapeFor, updatesBound}
-use Rattle.rows.proofs.Leads.{seek, look, pick, lead-found}
-use Rattle.rows.proofs.Entry.{sound-update}
-use Rattle.rows.proofs.Updates.{update-lead}
-use Rattle.rows.proofs.Least.{lightest-one, lightest-stays}
-use Rattle.rows.proofs.StartRows.{start-first, start-sound}
 use Rattle.figures.specs.Figures.{three, atThree, word-0-0-1}
 use Rattle.figures.proofs.Computed.{seven-laws, three-distinct, through, holds-curve}
 use Rattle.figures.proofs.Calls.{Interpolates, startFor, AtStart, Worked}

@@ -9,12 +9,12 @@ use Rattle.field.specs.Symbols.{symbol, symbolsOf}
 use Rattle.field.proofs.SymbolLaws.{symbols-field}
 use Rattle.poly.specs.Polynomials.{Seq, Series, xS}
 use Rattle.poly.proofs.Interpolating.{places-distinct}
-use Rattle.rows.specs.Curves.{Curve, Smallest}
+use Rattle.curves.specs.Curves.{Curve, Smallest}
+use Rattle.curves.proofs.Least.{weight-unique}
+use Rattle.curves.proofs.ZeroWord.{smallest-zero-word, zero-word-weight}
 use Rattle.rows.specs.Bytes.{HoldsCurve}
 use Rattle.rows.specs.Demands.{Request, ringFor, shapeFor, Member}
 use Rattle.rows.proofs.Accepted.{Accepted}
-use Rattle.rows.proofs.Least.{weight-unique}
-use Rattle.rows.proofs.ZeroWord.{smallest-zero-word, zero-word-weight}
 use Rattle.figures.specs.Figures.{Calls}
 use Rattle.figures.proofs.Calls.{calls-accepted, calls-hand}
 

@@ -18,15 +18,16 @@ use Rattle.field.specs.Field.{pow}
 use Rattle.field.specs.Symbols.{symbols, symbolsOf}
 use Rattle.poly.specs.Polynomials.{Seq, Series, xS, Through}
 use Rattle.poly.specs.Encode.{Encoded}
-use Rattle.rows.specs.Start.{formula}
-use Rattle.rows.specs.Finish.{Lightest}
+use Rattle.poly.specs.Limits.{workingRoom}
+use Rattle.curves.specs.Start.{formula}
+use Rattle.curves.specs.Finish.{Lightest}
 use Rattle.rows.specs.Bytes.{curveBytes, rowsBytes, rowsOf, HoldsCurve}
 use Rattle.rows.specs.Jobs.{HasStarted, HasTurned, HasFinished}
 use Rattle.rows.specs.Demands.{Request, ringFor, shapeFor, noteFor, updatesBound}
 use Rattle.rows.specs.declared.Started.{Started}
 use Rattle.rows.specs.declared.Turned.{Turned}
 use Rattle.rows.specs.declared.Finished.{Finished}
-use Rattle.near.specs.Job.{workingRoom, refusal, HasListed}
+use Rattle.near.specs.Job.{refusal, HasListed}
 use Rattle.near.specs.declared.Near.{Near}
 
 abbrev pub six : List ℕ

@@ -1,6 +1,8 @@
 // Runs document 01's figures; what it prints is held against stdout. The starred ones are proved besides (specs/Figures.antt). A message or
 // a word is given as a decimal number, a digit for each symbol.
 use libc::STDOUT_FILENO;
+use poly::limits::ALLOWANCE_MOST;
+use poly::limits::WORKING_ROOM;
 
 fn wide(x: u8) -> u64 {
     x as u64
@@ -52,7 +54,7 @@ fn interpolate(p: u8, points: &[u8], word: &[u8], k: u8, m: u8, l: u8, lent: &mu
     let mut curve = [0u8; 60];
     let started = rows::start(p, points, word, k, m, l, lent);
     let note = started.note;
-    let turned = note.turn(lent, 65535);
+    let turned = note.turn(lent, ALLOWANCE_MOST);
     let finished = rows::finish(turned.note, lent, &mut curve);
     show(
         b"  start turn finish",
@@ -64,7 +66,7 @@ fn interpolate(p: u8, points: &[u8], word: &[u8], k: u8, m: u8, l: u8, lent: &mu
 }
 
 fn list(p: u8, points: &[u8], word: &[u8], k: u8, m: u8, l: u8, t: u8) {
-    let mut room = [0u8; 32768];
+    let mut room = [0u8; WORKING_ROOM];
     let mut messages = [0u8; 9];
     let near = near::list(p, points, word, k, m, l, t, &mut room, &mut messages);
     show(b"  list", &[near.number]);

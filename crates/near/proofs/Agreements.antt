@@ -12,13 +12,13 @@ use Rattle.poly.proofs.Evaluation.{value-more}
 use Rattle.poly.proofs.Shift.{shift, shift-value, shift-any}
 use Rattle.poly.proofs.Orders.{Ord}
 use Rattle.poly.proofs.Degrees.{sumBelow, sumBelow-zero, sumBelow-suc}
-use Rattle.poly.proofs.Places.{distinct-apart, orders-zero}
-use Rattle.rows.specs.Curves.{Curve, Finite, Under, Lead, Multiplicity, Passing}
-use Rattle.rows.proofs.Leads.{under-mono}
-use Rattle.rows.proofs.Along.{below-along, along}
-use Rattle.rows.proofs.Multiplicities.{multiplicity-vanish}
+use Rattle.poly.proofs.CoprimePowers.{distinct-apart, orders-zero}
+use Rattle.curves.specs.Curves.{Curve, Finite, Under, Lead, Multiplicity, Passing}
+use Rattle.curves.proofs.Leads.{under-mono}
+use Rattle.curves.proofs.MovedCurves.{below-along, along}
+use Rattle.curves.proofs.Multiplicities.{multiplicity-vanish}
+use Rattle.curves.proofs.Weights.{below-graph}
 use Rattle.near.specs.Lists.{Task, one, agreements, Wanted}
-use Rattle.near.proofs.Weights.{below-graph}
 
 -- at one place: the order of Q (x, g (x)), whose degree is below W
 module _ {R : Ring} (L : RingLaws R) {u W : ℕ} {Q : Curve R} (fin : Finite R Q) (light : Under R u W 0 Q) (N : ℕ) {g : Seq R} (short : Below R (suc u) g) where
@@ -30,24 +30,24 @@ module _ {R : Ring} (L : RingLaws R) {u W : ℕ} {Q : Curve R} (fin : Finite R Q
       ∙ ap (shift R a (N * suc u + fin .0)) (sym (shift-value (series L) g N Q)))
       ∙ along L (record { short = short; hits = λ s k. on }) 0 (omega arith) N Q fin m (multiplicity-vanish L m (fin .0) N a v Q mult) 0 i (omega arith)
 
-module _ {F : Field} (job : Task F) (g : Seq (F .ring)) where
-  pub agreements-zero : agreements job 0 g ≡ 0
+module _ {F : Field} (task : Task F) (g : Seq (F .ring)) where
+  pub agreements-zero : agreements task 0 g ≡ 0
   unfolding agreements
   agreements-zero = refl
 
   -- whether g agrees at place s
-  abbrev pub agrees? : (s : ℕ) → Dec (value (F .ring) (job .point s) (job .k) g ≡ job .received s)
-  agrees? s = F .same? (value (F .ring) (job .point s) (job .k) g) (job .received s)
+  abbrev pub agrees? : (s : ℕ) → Dec (value (F .ring) (task .point s) (task .k) g ≡ task .received s)
+  agrees? s = F .same? (value (F .ring) (task .point s) (task .k) g) (task .received s)
 
-  pub agreements-suc : (n : ℕ) → agreements job (suc n) g ≡ agreements job n g + one (agrees? n)
+  pub agreements-suc : (n : ℕ) → agreements task (suc n) g ≡ agreements task n g + one (agrees? n)
   unfolding agreements
   agreements-suc n = refl
 
-  agreements-sum : (m n : ℕ) → sumBelow n (λ s. m * one (agrees? s)) ≡ m * agreements job n g
+  agreements-sum : (m n : ℕ) → sumBelow n (λ s. m * one (agrees? s)) ≡ m * agreements task n g
   agreements-sum m zero = sumBelow-zero (λ s. m * one (agrees? s)) ∙ rw agreements-zero (sym (mul-zero m))
-  agreements-sum m (suc n) = rw (sumBelow-suc n (λ s. m * one (agrees? s)), agreements-sum m n, agreements-suc n) (sym (mul-add m (agreements job n g) (one (agrees? n))))
+  agreements-sum m (suc n) = rw (sumBelow-suc n (λ s. m * one (agrees? s)), agreements-sum m n, agreements-suc n) (sym (mul-add m (agreements task n g) (one (agrees? n))))
 
-module _ {F : Field} (Φ : FieldLaws F) (job : Task F) (points : Distinct (F .ring) (job .n) (job .point)) where
+module _ {F : Field} (Φ : FieldLaws F) (task : Task F) (points : Distinct (F .ring) (task .n) (task .point)) where
   abbrev R : Ring
   R = F .ring
 
@@ -55,23 +55,23 @@ module _ {F : Field} (Φ : FieldLaws F) (job : Task F) (points : Distinct (F .ri
   L = Φ .ring
 
   -- a multiplicity for each place
-  module _ {W : ℕ} {Q : Curve R} (fin : Finite R Q) (light : Under R (job .k - 1) W 0 Q) (N : ℕ) (ms : ℕ → ℕ) (mult : (s : ℕ) → s < job .n → Multiplicity R (ms s) (fin .0) N (job .point s) (job .received s) Q) where
-    pub nobody-missing : (g : Seq R) → Below R (job .k) g → W ≤ sumBelow (job .n) (λ s. ms s * one (agrees? job g s)) → value (Series R) g N Q ≡ zeroS R
+  module _ {W : ℕ} {Q : Curve R} (fin : Finite R Q) (light : Under R (task .k - 1) W 0 Q) (N : ℕ) (ms : ℕ → ℕ) (mult : (s : ℕ) → s < task .n → Multiplicity R (ms s) (fin .0) N (task .point s) (task .received s) Q) where
+    pub nobody-missing : (g : Seq R) → Below R (task .k) g → W ≤ sumBelow (task .n) (λ s. ms s * one (agrees? task g s)) → value (Series R) g N Q ≡ zeroS R
     nobody-missing g short le =
-        orders-zero L (job .n) W (job .point) (λ s. ms s * one (agrees? job g s)) (value (Series R) g N Q) (distinct-apart Φ (job .n) (job .point) points)
-        (below-graph L (job .k - 1) W N Q g wide light) le (λ s l. order s l (agrees? job g s))
+        orders-zero L (task .n) W (task .point) (λ s. ms s * one (agrees? task g s)) (value (Series R) g N Q) (distinct-apart Φ (task .n) (task .point) points)
+        (below-graph L (task .k - 1) W N Q g wide light) le (λ s l. order s l (agrees? task g s))
       where
-        wide : Below R (suc (job .k - 1)) g
+        wide : Below R (suc (task .k - 1)) g
         wide i l = short i (omega arith)
 
-        order : (s : ℕ) → s < job .n → (d : Dec (value R (job .point s) (job .k) g ≡ job .received s)) → Ord R (ms s * one d) (shift R (job .point s) W (value (Series R) g N Q))
-        order s l (yes e) i k = graph-order L fin light N wide (ms s) (job .point s) (job .received s) (mult s l) (value-more L (job .point s) (job .k) (suc (job .k - 1)) g short (omega arith) ∙ e) i (omega arith)
+        order : (s : ℕ) → s < task .n → (d : Dec (value R (task .point s) (task .k) g ≡ task .received s)) → Ord R (ms s * one d) (shift R (task .point s) W (value (Series R) g N Q))
+        order s l (yes e) i k = graph-order L fin light N wide (ms s) (task .point s) (task .received s) (mult s l) (value-more L (task .point s) (task .k) (suc (task .k - 1)) g short (omega arith) ∙ e) i (omega arith)
         order s l (no e) i k = absurd (omega arith)
 
   -- the curve vanishes along every wanted message, if m t is above its weight
-  module _ {m l w s : ℕ} {Q : Curve R} (pass : Passing R (job .n) m l (job .point) (job .received) Q) (lead : Lead R (job .k - 1) w s Q) (enough : w < m * job .t) where
-    pub wanted-root : (g : Seq R) → Wanted job g → value (Series R) g (suc l) Q ≡ zeroS R
+  module _ {m l w s : ℕ} {Q : Curve R} (pass : Passing R (task .n) m l (task .point) (task .received) Q) (lead : Lead R (task .k - 1) w s Q) (enough : w < m * task .t) where
+    pub wanted-root : (g : Seq R) → Wanted task g → value (Series R) g (suc l) Q ≡ zeroS R
     wanted-root g want =
-        let e = agreements-sum job g m (job .n) in
-        let le : m * job .t ≤ m * agreements job (job .n) g = mul-le-mul-left m (want .agrees) in
-        nobody-missing (pass .finite) (under-mono R (job .k - 1) w (suc s) (suc w) 0 Q (omega arith) (λ q. absurd (omega arith)) (lead .rest)) (suc l) (λ s. m) (pass .multiplicity) g (want .degree) (omega arith)
+        let e = agreements-sum task g m (task .n) in
+        let le : m * task .t ≤ m * agreements task (task .n) g = mul-le-mul-left m (want .agrees) in
+        nobody-missing (pass .finite) (under-mono R (task .k - 1) w (suc s) (suc w) 0 Q (omega arith) (λ q. absurd (omega arith)) (lead .rest)) (suc l) (λ s. m) (pass .multiplicity) g (want .degree) (omega arith)

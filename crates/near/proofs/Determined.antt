@@ -10,16 +10,16 @@ use lib.Seq.{getD-take}
 use Rattle.field.specs.Symbols.{symbols, symbolsOf}
 use Rattle.field.proofs.SymbolLaws.{symbols-field}
 use Rattle.poly.specs.Buffers.{Places}
+use Rattle.poly.specs.Limits.{workingRoom}
 use Rattle.poly.proofs.TableLaws.{first-determined}
-use Rattle.poly.proofs.Places.{distinct-apart}
+use Rattle.poly.proofs.CoprimePowers.{distinct-apart}
 use Rattle.poly.proofs.Interpolation.{interpolant-unique}
 use Rattle.poly.proofs.Interpolating.{places-distinct}
-use Rattle.rows.specs.Turns.{Outcome}
-use Rattle.rows.proofs.Ends.{end-determined}
-use Rattle.rows.proofs.Regions.{untouched-unique}
-use Rattle.rows.proofs.Least.{weight-unique}
-use Rattle.near.specs.Lists.{task}
-use Rattle.near.specs.Job.{workingRoom, listTable, refusal, RuleUpdates, Lists, Answers, HasListed}
+use Rattle.poly.proofs.BufferLaws.{untouched-unique}
+use Rattle.curves.specs.Turns.{Outcome}
+use Rattle.curves.proofs.Determined.{end-determined}
+use Rattle.curves.proofs.Least.{weight-unique}
+use Rattle.near.specs.Job.{taskOf, listTable, refusal, RuleUpdates, Lists, Answers, HasListed}
 use Rattle.near.specs.declared.Near.{Near}
 use Rattle.near.proofs.Messages.{symbols-numbered}
 use Rattle.near.proofs.Lists.{list-unique}
@@ -46,7 +46,7 @@ module _ {p : ℕ} {points word : List ℕ} {k m l : ℕ} (places : Places p poi
   )
     where
       same : f .list ≡ g .list
-      same = list-unique (task p points word k t) (symbols-numbered (places .size)) (f .list) (g .list) (f .exactly) (g .exactly)
+      same = list-unique (taskOf p points word k t) (symbols-numbered (places .size)) (f .list) (g .list) (f .exactly) (g .exactly)
 
       size : ℕ
       size = length (f .list) * k

@@ -1,16 +1,6 @@
 pub mod Messages
 pub mod Lists
-pub mod Weights
-pub mod Steps
-pub mod Fitting
-pub mod Passes
-pub mod Found
 pub mod Agreements
 pub mod Answer
-pub mod Laying
-pub mod Tests
-pub mod Shifting
-pub mod Keeping
-pub mod Levels
 pub mod Listing
 pub mod Determined

@@ -12,42 +12,44 @@ use borrow.Author.Needs.{needs}
 use Rattle.field.specs.Symbols.{symbols, symbolsOf}
 use Rattle.field.specs.Field.{Ring, FieldLaws}
 use Rattle.field.proofs.SymbolLaws.{symbols-field}
+use Rattle.poly.specs.Limits.{allowanceMost}
 use Rattle.poly.specs.Polynomials.{locator}
 use Rattle.poly.specs.Table.{First, NotListed, BadCount, BadDegree, BadHeights}
+use Rattle.poly.specs.Buffers.{Untouched}
+use Rattle.poly.specs.Limits.{workingRoom}
 use Rattle.poly.proofs.TableLaws.{first-determined, first-passed, passed-first}
 use Rattle.poly.proofs.Interpolation.{interpolate}
 use Rattle.poly.proofs.Interpolating.{places-distinct}
-use Rattle.rows.specs.Bytes.{shape, curveBytes, rowsOf, Untouched}
+use Rattle.poly.proofs.BufferLaws.{untouched-then}
+use Rattle.curves.specs.Curves.{Curve, Under}
+use Rattle.curves.specs.Start.{startRow}
+use Rattle.curves.proofs.FinishedTurns.{end-alike}
+use Rattle.curves.proofs.Runs.{fresh-enters}
+use Rattle.curves.proofs.Passing.{begins-same, begins-start}
+use Rattle.curves.proofs.Leads.{under-mono}
+use Rattle.curves.proofs.StartRows.{smallest-weight}
+use Rattle.rows.specs.Bytes.{shape, curveBytes, rowsOf}
 use Rattle.rows.specs.Jobs.{startTable, BadNote, size, count, degree, heights, row, HasStarted, Goes, HasTurned, HasFinished}
-use Rattle.rows.specs.Curves.{Curve, Under}
-use Rattle.rows.specs.Start.{startRow}
 use Rattle.rows.specs.Demands.{Request, ringFor, shapeFor, noteFor, updatesBound, Begun, started, turned}
 use Rattle.rows.specs.declared.Note.{Note}
 use Rattle.rows.specs.declared.Started.{Started}
 use Rattle.rows.specs.declared.Turned.{Turned}
 use Rattle.rows.specs.declared.Finished.{Finished}
-use Rattle.rows.proofs.Formula.{formula-most}
-use Rattle.rows.proofs.Ends.{end-alike}
-use Rattle.rows.proofs.Runs.{fresh-enters}
-use Rattle.rows.proofs.Boxes.{holds-row}
-use Rattle.rows.proofs.Passing.{begins-same, begins-start}
+use Rattle.rows.proofs.Notes.{formula-most, good-note, good-fine}
+use Rattle.rows.proofs.HeldRows.{holds-row}
 use Rattle.rows.proofs.Demands.{demand-3, demand-2}
-use Rattle.rows.proofs.Notes.{good-note, good-fine}
 use Rattle.rows.proofs.Accepted.{Accepted, start-accepted, accepted-note}
-use Rattle.rows.proofs.Places.{rows-small}
-use Rattle.rows.proofs.Leads.{under-mono}
-use Rattle.rows.proofs.Regions.{untouched-then}
-use Rattle.rows.proofs.StartRows.{smallest-weight}
-use Rattle.near.specs.Job.{workingRoom, listTable, Zeroed, refusal, RuleUpdates, Lists, HasListed}
-use Rattle.near.specs.Lists.{task, IsList}
+use Rattle.rows.proofs.Placing.{rows-small}
+use Rattle.near.specs.Job.{taskOf, requestOf, listTable, Zeroed, refusal, RuleUpdates, Lists, HasListed}
+use Rattle.near.specs.Lists.{IsList}
 use Rattle.near.specs.Search.{found}
-use Rattle.near.specs.Work.{curveOf, jobOf, planOf, Laid, Runs, Ran, FoundCurve}
+use Rattle.near.specs.Work.{curveOf, taskFor, planOf, Laid, Runs, Ran, FoundCurve}
 use Rattle.near.specs.declared.Near.{Near}
 use Rattle.near.specs.declared.Weighed.{Weighed}
 use Rattle.near.specs.declared.search.Plan.{Plan}
 use Rattle.near.proofs.Messages.{symbols-numbered}
 use Rattle.near.proofs.Answer.{search-is-list, list-at-most}
-use Rattle.near.proofs.Laying.{holds-curve, holds-laid}
+use Rattle.near.proofs.search.Laying.{holds-curve, holds-laid}
 
 pub record Taken (p : ℕ) (points word : List ℕ) (k m l t : ℕ) (room messages : List ℕ) : Type 0 where
   pub start : First (startTable p points word k m l room) 0
@@ -80,16 +82,12 @@ list-taken p points word k m l t room messages first =
     good a b c d (row (inl h)) = omega arith
     good a b c d (row (inr h)) = omega arith
 
--- more updates than are ever made
-abbrev ample : ℕ
-ample = 65535
-
--- start, one turn with an ample allowance, and finish
+-- start, one turn with the largest allowance, which is more than all updates ever made, and finish
 module _ {p : ℕ} {points word : List ℕ} {k m l : ℕ} {room rows new lent curve : List ℕ} {start : Started} {turn : Turned} {finish : Finished}
-    (first : First (startTable p points word k m l room) 0) (began : HasStarted p points word k m l room rows start) (went : HasTurned (start .note) ample rows new turn)
+    (first : First (startTable p points word k m l room) 0) (began : HasStarted p points word k m l room rows start) (went : HasTurned (start .note) allowanceMost rows new turn)
     (ended : HasFinished (turn .note) new lent curve finish) where
   abbrev q : Request
-  q = record { p = p; points = points; word = word; k = k; m = m; l = l }
+  q = requestOf p points word k m l
 
   accepted : Accepted p points word k m l room
   accepted = start-accepted first refl
@@ -97,7 +95,7 @@ module _ {p : ℕ} {points word : List ℕ} {k m l : ℕ} {room rows new lent cu
   begun : Begun q room rows start
   begun = (began, first-determined (startTable p points word k m l room) (start .number) 0 (began .first) first)
 
-  enough : updatesBound q ≤ ample
+  enough : updatesBound q ≤ allowanceMost
   enough =
       let size = accepted .places .size in
       let most = accepted .places .count in
@@ -105,14 +103,14 @@ module _ {p : ℕ} {points word : List ℕ} {k m l : ℕ} {room rows new lent cu
       let x = formula-most (length points) k m l (omega arith) (accepted .low) (h .some) (h .most) (h .high) in
       omega arith
 
-  turned-one : HasTurned (noteFor q 1) ample rows new turn
+  turned-one : HasTurned (noteFor q 1) allowanceMost rows new turn
   turned-one = rw (begun .0 .note (begun .1)) at went
 
-  goes : Goes (noteFor q 1) ample rows new turn
-  goes = turned-one .goes (dec→stable (ℕ-discrete (turned-one .entry) 0) (λ n. n (sym (turned-one .refused n .0) ∙ demand-3 q (started begun) .accepted ample new turn went)))
+  goes : Goes (noteFor q 1) allowanceMost rows new turn
+  goes = turned-one .goes (dec→stable (ℕ-discrete (turned-one .entry) 0) (λ n. n (sym (turned-one .refused n .0) ∙ demand-3 q (started begun) .accepted allowanceMost new turn went)))
 
   at-end : goes .outcome .row ≡ suc l
-  at-end = sym (ap (λ (x : Note). x .r) (goes .next)) ∙ demand-3 q (turned ample (started begun) went) .finished (omega (arith, enough))
+  at-end = sym (ap (λ (x : Note). x .r) (goes .next)) ∙ demand-3 q (turned allowanceMost (started begun) went) .finished (omega (arith, enough))
 
   updates-rule : RuleUpdates p points word k m l (turn .updates)
   updates-rule =
@@ -125,7 +123,7 @@ module _ {p : ℕ} {points word : List ℕ} {k m l : ℕ} {room rows new lent cu
       let same : (i : ℕ) → i ≤ l → rowsOf (shapeFor q) rows i ≡ first i = λ i g.
       holds-row (shapeFor q) rows g (first i) (λ j e. begun .0 .rows (begun .1) h thr i j e g) (λ j e x. b .fresh i g .height j e (omega arith)) (b .fresh i g .within) in
       let (o, t, e, u) = end-alike Φ (fresh-enters Φ (begins-same Φ same b .fresh)) (λ i g. sym (same i g)) (goes .turn) at-end in
-      record { h = h; through = thr; allowance = ample; outcome = o; turn = t; finished = e; are = goes .updates ∙ sym u }
+      record { h = h; through = thr; allowance = allowanceMost; outcome = o; turn = t; finished = e; are = goes .updates ∙ sym u }
 
   pub curve-found : curveBytes (shapeFor q) ≤ length lent → FoundCurve p points word k m l room new lent curve (record { updates = turn .updates; weight = finish .weight })
   curve-found fits =
@@ -179,13 +177,13 @@ module _ {p : ℕ} {points word : List ℕ} {k m l t : ℕ} {room cleared messag
     above = rw (f .weight-is) at vouched
 
     abbrev list : List (List ℕ)
-    list = found (jobOf plan points word) (suc l) (suc (plan .width)) Q
+    list = found (taskFor plan points word) (suc l) (suc (plan .width)) Q
 
-    exactly : IsList (task p points word k t) list
-    exactly = search-is-list Φ (task p points word k t) (symbols-numbered (a .places .size)) (places-distinct (a .places)) (f .smallest .member) (f .smallest .lead) above (suc (plan .width))
+    exactly : IsList (taskOf p points word k t) list
+    exactly = search-is-list Φ (taskOf p points word k t) (symbols-numbered (a .places .size)) (places-distinct (a .places)) (f .smallest .member) (f .smallest .lead) above (suc (plan .width))
 
     few : length list ≤ l
-    few = list-at-most Φ (task p points word k t) (symbols-numbered (a .places .size)) (places-distinct (a .places)) (f .smallest .member) (f .smallest .lead) above list exactly
+    few = list-at-most Φ (taskOf p points word k t) (symbols-numbered (a .places .size)) (places-distinct (a .places)) (f .smallest .member) (f .smallest .lead) above list exactly
 
     pub search-runs : Runs plan points word bytes messages
     search-runs =
@@ -197,7 +195,7 @@ module _ {p : ℕ} {points word : List ℕ} {k m l t : ℕ} {room cleared messag
           room = taken .enough;
         }
 
-    pub search-lists : {after : List ℕ} {r : ℕ} → Ran k (found (jobOf plan points word) (suc l) (suc (plan .width)) (curveOf plan bytes)) messages after r
+    pub search-lists : {after : List ℕ} {r : ℕ} → Ran k (found (taskFor plan points word) (suc l) (suc (plan .width)) (curveOf plan bytes)) messages after r
         → Lists p points word k m l t (f .smallest .weight) messages after (record { number = 0; count = r; updates = back .updates; weight = back .weight })
     search-lists {after} {r} ran = go (rw curve-is at ran)
       where

@@ -91,11 +91,11 @@ ascending-unique (x ∷ l) (y ∷ r) s t to from =
     same (inr h) (inl e) = sym e
     same (inr h) (inr k) = absurd (before-asymmetric x y (s .0 y k) (t .0 x h))
 
-module _ {F : Field} (job : Task F) (num : Numbering F (job .p) (job .element)) where
-  pub list-unique : (l m : List (List ℕ)) → IsList job l → IsList job m → l ≡ m
+module _ {F : Field} (task : Task F) (num : Numbering F (task .p) (task .element)) where
+  pub list-unique : (l m : List (List ℕ)) → IsList task l → IsList task m → l ≡ m
   list-unique l m L M = ascending-unique l m (L .ascending) (M .ascending) (to L M) (to M L)
     where
-      to : {l m : List (List ℕ)} → IsList job l → IsList job m → (x : List ℕ) → In x l → In x m
+      to : {l m : List (List ℕ)} → IsList task l → IsList task m → (x : List ℕ) → In x l → In x m
       to L M x h =
-          let a = M .all (polynomial job x) (L .wanted x h) in
-          Memᴰ·cast (polynomial-same job num x (a .0) (L .spelt x h) (M .spelt (a .0) (a .1)) (sym (a .2))) (a .1)
+          let a = M .all (polynomial task x) (L .wanted x h) in
+          Memᴰ·cast (polynomial-same task num x (a .0) (L .spelt x h) (M .spelt (a .0) (a .1)) (sym (a .2))) (a .1)

@@ -10,12 +10,11 @@ use Rattle.field.specs.Field.{Ring, RingLaws, Field, FieldLaws}
 use Rattle.field.specs.Symbols.{Listed, symbol, symbols}
 use Rattle.field.proofs.RingLaws.{add-zero, zero-add, one-mul}
 use Rattle.field.proofs.SymbolLaws.{symbol-byte, symbol-injective}
-use Rattle.poly.specs.Polynomials.{Seq, tail, Series, constS, Below}
+use Rattle.poly.specs.Polynomials.{Seq, tail, Series, constS, Below, mono}
 use Rattle.poly.proofs.Series.{addS-at}
 use Rattle.poly.proofs.Constants.{constS-zero, constS-suc}
 use Rattle.poly.proofs.Parts.{parts-ext}
-use Rattle.rows.specs.Turns.{mono}
-use Rattle.rows.proofs.Monomials.{mono-zero, mono-mul-at, mono-mul-low, mono-mono}
+use Rattle.poly.proofs.Monomials.{mono-zero, mono-mul-at, mono-mul-low, mono-mono}
 use Rattle.near.specs.Lists.{Task, Numbering, polynomial, Spelt}
 
 pub spelt-nil : {p : ℕ} → Spelt p 0 []
@@ -37,28 +36,28 @@ symbols-numbered {p} h =
       once = λ b c. symbol-injective p;
     }
 
-module _ {F : Field} (job : Task F) (num : Numbering F (job .p) (job .element)) where
-  pub polynomial-same : {k : ℕ} (x y : List ℕ) → Spelt (job .p) k x → Spelt (job .p) k y → polynomial job x ≡ polynomial job y → x ≡ y
+module _ {F : Field} (task : Task F) (num : Numbering F (task .p) (task .element)) where
+  pub polynomial-same : {k : ℕ} (x y : List ℕ) → Spelt (task .p) k x → Spelt (task .p) k y → polynomial task x ≡ polynomial task y → x ≡ y
   polynomial-same x y sx sy e =
       let lx = sx .long in
       let ly = sy .long in
       ext-getD 0 x y (omega arith) (λ i l. num .once (getD x i 0) (getD y i 0) (sx .small i (omega arith)) (sy .small i (omega arith)) (ap (λ (g : Seq (F .ring)). g i) e))
 
-  pub spell : (k : ℕ) (g : Seq (F .ring)) → Below (F .ring) k g → (x : List ℕ) × Spelt (job .p) k x × (polynomial job x ≡ g)
+  pub spell : (k : ℕ) (g : Seq (F .ring)) → Below (F .ring) k g → (x : List ℕ) × Spelt (task .p) k x × (polynomial task x ≡ g)
   spell zero g h = ([], spelt-nil, fun-ext (λ i. num .zero ∙ sym (h i (omega arith))))
   spell (suc k) g h =
       let a = num .all (g 0) in
       let b = spell k (tail (F .ring) g) (λ i l. h (suc i) (omega arith)) in
       (a .0 ∷ b .0, spelt-cons (a .1) (b .1), fun-ext (at (a .0) (b .0) (a .2) (b .2)))
     where
-      at : (c : ℕ) (x : List ℕ) → job .element c ≡ g 0 → polynomial job x ≡ tail (F .ring) g → (i : ℕ) → polynomial job (c ∷ x) i ≡ g i
+      at : (c : ℕ) (x : List ℕ) → task .element c ≡ g 0 → polynomial task x ≡ tail (F .ring) g → (i : ℕ) → polynomial task (c ∷ x) i ≡ g i
       at c x e f zero = e
       at c x e f (suc i) = ap (λ (g : Seq (F .ring)). g i) f
 
-  pub polynomial-beyond : (x : List ℕ) (i : ℕ) → length x ≤ i → polynomial job x i ≡ F .ring .𝟘
-  polynomial-beyond x i l = ap (job .element) (List·getD-eq-default x 0 l) ∙ num .zero
+  pub polynomial-beyond : (x : List ℕ) (i : ℕ) → length x ≤ i → polynomial task x i ≡ F .ring .𝟘
+  polynomial-beyond x i l = ap (task .element) (List·getD-eq-default x 0 l) ∙ num .zero
 
-module _ {F : Field} (Φ : FieldLaws F) (job : Task F) (num : Numbering F (job .p) (job .element)) where
+module _ {F : Field} (Φ : FieldLaws F) (task : Task F) (num : Numbering F (task .p) (task .element)) where
   abbrev R : Ring
   R = F .ring
 
@@ -71,22 +70,22 @@ module _ {F : Field} (Φ : FieldLaws F) (job : Task F) (num : Numbering F (job .
   infixl 65 _⊕_ _⊞_
   infixl 70 _⊠_
   -- the symbols of x, and then those of y
-  pub polynomial-append : (x y : List ℕ) → polynomial job (x ++ y) ≡ mono R 𝟙 (length x) ⊠ polynomial job y ⊞ polynomial job x
+  pub polynomial-append : (x y : List ℕ) → polynomial task (x ++ y) ≡ mono R 𝟙 (length x) ⊠ polynomial task y ⊞ polynomial task x
   polynomial-append x y =
-      parts-ext L (length x) (polynomial job (x ++ y)) (Y ⊞ polynomial job x)
-      (λ j l. ap (job .element) (List·getD-append x y 0 j l)
-      ∙ sym (addS-at R Y (polynomial job x) j ∙ rw (mono-mul-low L 𝟙 (length x) j (polynomial job y) l) (zero-add L (polynomial job x j))))
-      (λ i. ap (job .element) (getD-append-add x y i 0)
-      ∙ sym (addS-at R Y (polynomial job x) (length x + i)
-      ∙ ap₂ _⊕_ (mono-mul-at L 𝟙 (length x) i (polynomial job y) ∙ one-mul L (polynomial job y i)) (polynomial-beyond job num x (length x + i) (omega arith))
-      ∙ add-zero L (polynomial job y i)))
+      parts-ext L (length x) (polynomial task (x ++ y)) (Y ⊞ polynomial task x)
+      (λ j l. ap (task .element) (List·getD-append x y 0 j l)
+      ∙ sym (addS-at R Y (polynomial task x) j ∙ rw (mono-mul-low L 𝟙 (length x) j (polynomial task y) l) (zero-add L (polynomial task x j))))
+      (λ i. ap (task .element) (getD-append-add x y i 0)
+      ∙ sym (addS-at R Y (polynomial task x) (length x + i)
+      ∙ ap₂ _⊕_ (mono-mul-at L 𝟙 (length x) i (polynomial task y) ∙ one-mul L (polynomial task y i)) (polynomial-beyond task num x (length x + i) (omega arith))
+      ∙ add-zero L (polynomial task y i)))
     where
       Y : Seq R
-      Y = mono R 𝟙 (length x) ⊠ polynomial job y
+      Y = mono R 𝟙 (length x) ⊠ polynomial task y
 
-  pub polynomial-snoc : (x : List ℕ) (c : ℕ) → polynomial job (x ++ (c ∷ [])) ≡ mono R (job .element c) (length x) ⊞ polynomial job x
-  polynomial-snoc x c = polynomial-append x (c ∷ []) ∙ rw (fun-ext one, ← mono-zero R (job .element c), mono-mono L (length x) (job .element c) 0, n-add-zero (length x))
+  pub polynomial-snoc : (x : List ℕ) (c : ℕ) → polynomial task (x ++ (c ∷ [])) ≡ mono R (task .element c) (length x) ⊞ polynomial task x
+  polynomial-snoc x c = polynomial-append x (c ∷ []) ∙ rw (fun-ext one, ← mono-zero R (task .element c), mono-mono L (length x) (task .element c) 0, n-add-zero (length x))
     where
-      one : (i : ℕ) → polynomial job (c ∷ []) i ≡ constS R (job .element c) i
-      one zero = sym (constS-zero R (job .element c))
-      one (suc i) = num .zero ∙ sym (constS-suc R (job .element c) i)
+      one : (i : ℕ) → polynomial task (c ∷ []) i ≡ constS R (task .element c) i
+      one zero = sym (constS-zero R (task .element c))
+      one (suc i) = num .zero ∙ sym (constS-suc R (task .element c) i)

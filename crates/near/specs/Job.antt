@@ -1,11 +1,10 @@
 -- The job list: when it refuses, and what it leaves.
---   workingRoom        the bytes of working room that it asks
+--   taskOf p points word k t       what is asked of the list, over the symbols of p
+--   requestOf p points word k m l  what is asked of the interpolation
 --   listTable          refusals 1 to 9
 --   flat list          the messages one after the other
 --   Zeroed size xs ys  ys is xs with its first `size` bytes zero
 --   refusal number     what a refusal hands back: its number and zeros
---   TheCurve p points word k m l Q   Q is the curve of demand 2: of those that pass through the received points, the monic nonzero
---                      one with the smallest leading term
 --   RuleUpdates        how many updates the rule makes from the starting rows to the end
 --   Lists              what an answered list hands back and leaves in the message room: exactly the messages wanted
 --   Answers            what an accepted list leaves: with w the curve's weight, 13 where m t is not above w, and else the list
@@ -15,28 +14,29 @@ use mathlib.Core.Logic.{_⊎_}
 use mathlib.Core.List.{List, [], _∷_, _++_}
 use Prim.Native.Nat.{ℕ, suc, _-_, _*_, _≤_, _<_}
 use lib.ListN.{length, getD, take}
-use Rattle.field.specs.Symbols.{symbols, symbolsOf}
+use Rattle.field.specs.Symbols.{symbol, symbols, symbolsOf}
 use Rattle.poly.specs.Polynomials.{Seq, locator, Through}
-use Rattle.poly.specs.Table.{Refusal, First, NotListed, BadCount, BadDegree, TooLarge, Repeated, TooShort, BadHeights}
-use Rattle.rows.specs.Curves.{Curve, Smallest, Passing}
-use Rattle.rows.specs.Start.{startRow}
-use Rattle.rows.specs.Turns.{Outcome, Turn}
-use Rattle.rows.specs.Bytes.{Untouched}
-use Rattle.near.specs.Lists.{task, IsList}
+use Rattle.poly.specs.Limits.{workingRoom}
+use Rattle.poly.specs.Table.{Refusal, First, TooShort}
+use Rattle.poly.specs.Buffers.{Untouched}
+use Rattle.curves.specs.Curves.{Curve}
+use Rattle.curves.specs.Start.{startRow}
+use Rattle.curves.specs.Turns.{Outcome, Turn}
+use Rattle.rows.specs.Jobs.{requestTable}
+use Rattle.rows.specs.Demands.{Request, TheCurve}
+use Rattle.near.specs.Lists.{Task, IsList}
 use Rattle.near.specs.declared.Near.{Near}
 
-abbrev pub workingRoom : ℕ
-workingRoom = 32768
+abbrev pub taskOf : (p : ℕ) → List ℕ → List ℕ → ℕ → ℕ → Task (symbols p)
+taskOf p points word k t =
+    record { p = p; element = symbol p; n = length points; point = symbolsOf p points; received = symbolsOf p word; k = k; t = t }
+
+abbrev pub requestOf : ℕ → List ℕ → List ℕ → ℕ → ℕ → ℕ → Request
+requestOf p points word k m l = record { p = p; points = points; word = word; k = k; m = m; l = l }
 
 abbrev pub listTable : ℕ → List ℕ → List ℕ → ℕ → ℕ → ℕ → ℕ → List ℕ → List ℕ → List Refusal
 listTable p points word k m l t room messages =
-    record { number = 1; applies = NotListed p } ∷
-    record { number = 2; applies = BadCount p (length points) } ∷
-    record { number = 3; applies = length word ≡ length points → ⊥ } ∷
-    record { number = 4; applies = BadDegree (length points) k } ∷
-    record { number = 5; applies = BadHeights m l } ∷
-    record { number = 6; applies = TooLarge p points ⊎ TooLarge p word } ∷
-    record { number = 7; applies = Repeated points } ∷
+    requestTable p points word k m l ++
     record { number = 8; applies = (t < 1) ⊎ (length points < t) } ∷
     record { number = 9; applies = TooShort workingRoom room ⊎ TooShort (l * k) messages } ∷
     []
@@ -53,9 +53,6 @@ abbrev pub refusal : ℕ → Near
 refusal number = record { number = number; count = 0; updates = 0; weight = 0 }
 
 module _ (p : ℕ) (points word : List ℕ) (k m l : ℕ) where
-  abbrev pub TheCurve : Curve (symbols p .ring) → Type 0
-  TheCurve = Smallest (symbols p .ring) (k - 1) (Passing (symbols p .ring) (length points) m l (symbolsOf p points) (symbolsOf p word))
-
   pub record RuleUpdates (updates : ℕ) : Type 0 where
     pub h : Seq (symbols p .ring)
     pub through : Through (symbols p .ring) (length points) (symbolsOf p points) (symbolsOf p word) h
@@ -68,7 +65,7 @@ module _ (p : ℕ) (points word : List ℕ) (k m l : ℕ) where
   module _ (t : ℕ) where
     pub record Lists (weight : ℕ) (before after : List ℕ) (back : Near) : Type 0 where
       pub list : List (List ℕ)
-      pub exactly : IsList (task p points word k t) list
+      pub exactly : IsList (taskOf p points word k t) list
       pub few : length list ≤ l
       pub done : back .number ≡ 0
       pub count : back .count ≡ length list
@@ -79,7 +76,7 @@ module _ (p : ℕ) (points word : List ℕ) (k m l : ℕ) where
 
     pub record Answers (room-before room-after before after : List ℕ) (back : Near) : Type 0 where
       pub curve : Curve (symbols p .ring)
-      pub smallest : TheCurve curve
+      pub smallest : TheCurve (requestOf p points word k m l) curve
       pub zeroed : Zeroed workingRoom room-before room-after
       pub unvouched : m * t ≤ smallest .weight → (back ≡ refusal 13) × (after ≡ before)
       pub lists : smallest .weight < m * t → Lists (smallest .weight) before after back

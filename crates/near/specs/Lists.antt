@@ -1,24 +1,22 @@
 -- The messages near a received word. A message is k symbols, constant first, that is, a polynomial of degree below k. All is said over
 -- any field whose elements are numbered: in the field of the numbers modulo p the elements are symbol p 0, .., symbol p (p-1).
 --   Task F                  what is asked: the word received at n points, messages of k symbols, t agreements; and the numbers of symbols
---   task p points word k t  the task that bytes set, over the symbols of p
 --   Numbering F p element   element 0 is zero, and each element of the field is element c for one c below p, and for no other below p
---   polynomial job x        the polynomial whose coefficients have the numbers x, constant first
+--   polynomial task x       the polynomial whose coefficients have the numbers x, constant first
 --   Spelt p k x             x is k numbers below p
 --   one test                1 where the test holds, else 0
---   agreements job n g      at how many of the first n places g takes at the point the value received
---   Wanted job g            g has degree below k and at least t agreements
+--   agreements task n g     at how many of the first n places g takes at the point the value received
+--   Wanted task g           g has degree below k and at least t agreements
 --   In x list               x is on the list
 --   Before x y              where x and y first differ, from the constant up, x has the smaller number
 --   Ascending list          each message is before all that follow it, so none is there twice
---   IsList job list         on the list are the messages wanted, all of them and no others, in ascending order
+--   IsList task list        on the list are the messages wanted, all of them and no others, in ascending order
 use mathlib.Core.Path.{_≡_}
 use mathlib.Core.Logic.{_⊎_}
 use mathlib.Core.List.{List, [], _∷_, List·Memᴰ}
 use Prim.Native.Nat.{ℕ, zero, suc, _+_, _≤_, _<_}
 use lib.ListN.{length, getD}
 use Rattle.field.specs.Field.{Field}
-use Rattle.field.specs.Symbols.{symbol, symbols, symbolsOf}
 use Rattle.poly.specs.Polynomials.{Seq, Below, value}
 
 pub record Task (F : Field) : Type 0 where
@@ -29,10 +27,6 @@ pub record Task (F : Field) : Type 0 where
   pub received : ℕ → F .ring .Car
   pub k : ℕ
   pub t : ℕ
-
-abbrev pub task : (p : ℕ) → List ℕ → List ℕ → ℕ → ℕ → Task (symbols p)
-task p points word k t =
-    record { p = p; element = symbol p; n = length points; point = symbolsOf p points; received = symbolsOf p word; k = k; t = t }
 
 pub record Numbering (F : Field) (p : ℕ) (element : ℕ → F .ring .Car) : Type 0 where
   pub zero : element 0 ≡ F .ring .𝟘
@@ -59,20 +53,20 @@ abbrev pub one : {A : Type 0} → Dec A → ℕ
 one (yes h) = 1
 one (no h) = 0
 
-module _ {F : Field} (job : Task F) where
+module _ {F : Field} (task : Task F) where
   abbrev pub polynomial : List ℕ → Seq (F .ring)
-  polynomial x = λ i. job .element (getD x i 0)
+  polynomial x = λ i. task .element (getD x i 0)
 
   unfoldable pub agreements : ℕ → Seq (F .ring) → ℕ
   agreements zero g = 0
-  agreements (suc n) g = agreements n g + one (F .same? (value (F .ring) (job .point n) (job .k) g) (job .received n))
+  agreements (suc n) g = agreements n g + one (F .same? (value (F .ring) (task .point n) (task .k) g) (task .received n))
 
   pub record Wanted (g : Seq (F .ring)) : Type 0 where
-    pub degree : Below (F .ring) (job .k) g
-    pub agrees : job .t ≤ agreements (job .n) g
+    pub degree : Below (F .ring) (task .k) g
+    pub agrees : task .t ≤ agreements (task .n) g
 
   pub record IsList (list : List (List ℕ)) : Type 0 where
     pub ascending : Ascending list
-    pub spelt : (x : List ℕ) → In x list → Spelt (job .p) (job .k) x
+    pub spelt : (x : List ℕ) → In x list → Spelt (task .p) (task .k) x
     pub wanted : (x : List ℕ) → In x list → Wanted (polynomial x)
     pub all : (g : Seq (F .ring)) → Wanted g → (x : List ℕ) × In x list × (polynomial x ≡ g)

@@ -11,12 +11,12 @@
 --   lowest N W i T      the least v below W at which it is not zero
 --   fits? N W i T c     whether c is a root of it there
 --   each p f            f 0, .., f (p-1), one after the other
---   curveLeft job N x y T      the curve T as the symbols y leave it, chosen one by one after x; `curveLeft job N [] x Q` is Q as the
+--   curveLeft task N x y T      the curve T as the symbols y leave it, chosen one by one after x; `curveLeft task N [] x Q` is Q as the
 --                       symbols x leave it
---   level job N W left x T     the messages found that begin with x, where T is what x leaves and `left` symbols are still to be chosen:
+--   level task N W left x T    the messages found that begin with x, where T is what x leaves and `left` symbols are still to be chosen:
 --                       each next symbol is tried, and each fitting one opens the next level; at the end the agreements decide
---   opened job N W left x T c  those found with c chosen after x
---   found job N W Q     all messages found
+--   opened task N W left x T c  those found with c chosen after x
+--   found task N W Q    all messages found
 use mathlib.Core.Path.{_≡_}
 use mathlib.Core.Bool.{Bool, true, false}
 use mathlib.Core.List.{List, [], _∷_, _++_}
@@ -24,9 +24,9 @@ use Prim.Native.Nat.{ℕ, zero, suc, _-_, _*_, _<_}
 use native.Mathlib.Decide.{decLe}
 use lib.ListN.{length}
 use Rattle.field.specs.Field.{Ring, Field}
-use Rattle.poly.specs.Polynomials.{Seq, Series, oneS, consS, constS, value}
-use Rattle.rows.specs.Curves.{Curve}
-use Rattle.rows.specs.Turns.{choose, mono}
+use Rattle.field.specs.Choices.{choose}
+use Rattle.poly.specs.Polynomials.{Seq, Series, oneS, consS, constS, value, mono}
+use Rattle.curves.specs.Curves.{Curve}
 use Rattle.near.specs.Lists.{Task, polynomial, agreements}
 
 module _ (R : Ring) where
@@ -67,20 +67,20 @@ module _ (F : Field) where
   abbrev pub fits? : (N W i : ℕ) (T : Curve (F .ring)) (c : F .ring .Car) → Dec (value (F .ring) c N (slice (F .ring) i (lowest N W i T) T) ≡ F .ring .𝟘)
   fits? N W i T c = F .same? (value (F .ring) c N (slice (F .ring) i (lowest N W i T) T)) (F .ring .𝟘)
 
-module _ {F : Field} (job : Task F) (N : ℕ) where
+module _ {F : Field} (task : Task F) (N : ℕ) where
   unfoldable pub curveLeft : List ℕ → List ℕ → Curve (F .ring) → Curve (F .ring)
   curveLeft x [] T = T
-  curveLeft x (c ∷ y) T = curveLeft (x ++ (c ∷ [])) y (chosen (F .ring) N (length x) (job .element c) T)
+  curveLeft x (c ∷ y) T = curveLeft (x ++ (c ∷ [])) y (chosen (F .ring) N (length x) (task .element c) T)
 
-module _ {F : Field} (job : Task F) (N W : ℕ) where
+module _ {F : Field} (task : Task F) (N W : ℕ) where
   unfoldable pub level : ℕ → List ℕ → Curve (F .ring) → List (List ℕ)
-  level zero x T = choose (decLe (job .t) (agreements job (job .n) (polynomial job x))) (x ∷ []) []
+  level zero x T = choose (decLe (task .t) (agreements task (task .n) (polynomial task x))) (x ∷ []) []
   level (suc left) x T =
-      each (job .p)
-      (λ c. choose (fits? F N W (length x) T (job .element c)) (level left (x ++ (c ∷ [])) (chosen (F .ring) N (length x) (job .element c) T)) [])
+      each (task .p)
+      (λ c. choose (fits? F N W (length x) T (task .element c)) (level left (x ++ (c ∷ [])) (chosen (F .ring) N (length x) (task .element c) T)) [])
 
   abbrev pub opened : ℕ → List ℕ → Curve (F .ring) → ℕ → List (List ℕ)
-  opened left x T c = level left (x ++ (c ∷ [])) (chosen (F .ring) N (length x) (job .element c) T)
+  opened left x T c = level left (x ++ (c ∷ [])) (chosen (F .ring) N (length x) (task .element c) T)
 
   abbrev pub found : Curve (F .ring) → List (List ℕ)
-  found Q = level (job .k) [] Q
+  found Q = level (task .k) [] Q

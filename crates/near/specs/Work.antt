@@ -8,7 +8,7 @@
 --   Lifted plan i c j q xs ys   each of the slots from j to q - 1 took c x^i times the slot above, as it was
 --   Shifted plan i c xs ys  the bytes ys are what the curve becomes when c is chosen as the symbol at x^i; no other byte is written
 --   Received plan points word   messages are not empty; points and symbols are below p, and as many
---   jobOf plan points word  the task
+--   taskFor plan points word  the task that they set
 --   after                   the messages found that begin with the first i bytes of `chosen`, on the curve that they leave
 --   with                    those of them that go on with c
 --   kept                    the first k bytes of `chosen` as a list of one message, if it has the agreements
@@ -29,16 +29,18 @@ use native.Mathlib.Decide.{decLe}
 use lib.ListN.{length, getD, take}
 use lib.Seq.{sets}
 use Rattle.field.specs.Symbols.{Listed, symbol, symbols, sumOf, productOf}
+use Rattle.field.specs.Choices.{choose}
 use Rattle.poly.specs.Polynomials.{Seq, value}
-use Rattle.poly.specs.Buffers.{AllBelow}
-use Rattle.rows.specs.Curves.{Curve, Under}
-use Rattle.rows.specs.Turns.{choose}
-use Rattle.rows.specs.Bytes.{width, shape, curveBytes, rowsOf, HoldsCurve, Untouched}
+use Rattle.poly.specs.Buffers.{AllBelow, Untouched}
+use Rattle.poly.specs.Limits.{workingRoom}
+use Rattle.curves.specs.Curves.{Curve, Under}
+use Rattle.rows.specs.Bytes.{width, shape, curveBytes, rowsOf, HoldsCurve}
 use Rattle.rows.specs.Work.{Fine}
+use Rattle.rows.specs.Demands.{TheCurve}
 use Rattle.rows.specs.declared.Shape.{Shape}
-use Rattle.near.specs.Lists.{Task, task, Spelt, polynomial, agreements}
+use Rattle.near.specs.Lists.{Task, Spelt, polynomial, agreements}
+use Rattle.near.specs.Job.{taskOf, requestOf, flat, RuleUpdates}
 use Rattle.near.specs.Search.{chosen, slice, level, opened, found}
-use Rattle.near.specs.Job.{workingRoom, flat, TheCurve, RuleUpdates}
 use Rattle.near.specs.declared.Weighed.{Weighed}
 use Rattle.near.specs.declared.search.Plan.{Plan}
 
@@ -85,17 +87,17 @@ pub record Received (plan : Plan) (points word : List ℕ) : Type 0 where
   pub word-below : AllBelow (plan .p) word
 
 module _ (plan : Plan) (points word : List ℕ) where
-  abbrev pub jobOf : Task (symbols (plan .p))
-  jobOf = task (plan .p) points word (plan .k) (plan .t)
+  abbrev pub taskFor : Task (symbols (plan .p))
+  taskFor = taskOf (plan .p) points word (plan .k) (plan .t)
 
   abbrev pub after : (curve chosen : List ℕ) → ℕ → List (List ℕ)
-  after curve chosen i = level jobOf (suc (plan .l)) (suc (plan .width)) (plan .k - i) (take i chosen) (curveOf plan curve)
+  after curve chosen i = level taskFor (suc (plan .l)) (suc (plan .width)) (plan .k - i) (take i chosen) (curveOf plan curve)
 
   abbrev pub with : (curve chosen : List ℕ) → ℕ → ℕ → List (List ℕ)
-  with curve chosen i c = opened jobOf (suc (plan .l)) (suc (plan .width)) (plan .k - suc i) (take i chosen) (curveOf plan curve) c
+  with curve chosen i c = opened taskFor (suc (plan .l)) (suc (plan .width)) (plan .k - suc i) (take i chosen) (curveOf plan curve) c
 
   abbrev pub kept : List ℕ → List (List ℕ)
-  kept chosen = choose (decLe (plan .t) (agreements jobOf (length points) (polynomial jobOf (take (plan .k) chosen)))) (take (plan .k) chosen ∷ []) []
+  kept chosen = choose (decLe (plan .t) (agreements taskFor (length points) (polynomial taskFor (take (plan .k) chosen)))) (take (plan .k) chosen ∷ []) []
 
   pub record Searches (curve chosen : List ℕ) (i : ℕ) : Type 0 where
     pub received : Received plan points word
@@ -120,7 +122,7 @@ abbrev pub planOf : ℕ → ℕ → ℕ → ℕ → ℕ → ℕ → Plan
 planOf p n k m l t = record { p = p; k = k; l = l; t = t; width = width n k m l }
 
 abbrev pub foundOn : Plan → List ℕ → List ℕ → List ℕ → List (List ℕ)
-foundOn plan points word curve = found (jobOf plan points word) (suc (plan .l)) (suc (plan .width)) (curveOf plan curve)
+foundOn plan points word curve = found (taskFor plan points word) (suc (plan .l)) (suc (plan .width)) (curveOf plan curve)
 
 pub record Runs (plan : Plan) (points word curve messages : List ℕ) : Type 0 where
   pub received : Received plan points word
@@ -135,7 +137,7 @@ pub record Ran (k : ℕ) (list : List (List ℕ)) (before after : List ℕ) (r :
 
 pub record FoundCurve (p : ℕ) (points word : List ℕ) (k m l : ℕ) (room-before room-after before after : List ℕ) (back : Weighed) : Type 0 where
   pub curve : Curve (symbols p .ring)
-  pub smallest : TheCurve p points word k m l curve
+  pub smallest : TheCurve (requestOf p points word k m l) curve
   pub bytes : HoldsCurve (shape p (length points) k m l) after curve
   pub long : length after ≡ length before
   pub weight-is : back .weight ≡ smallest .weight

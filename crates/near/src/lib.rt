@@ -4,9 +4,13 @@ ghost use lib.ListN.{length};
 ghost use Rattle.poly.specs.Table.{First};
 ghost use Rattle.rows.specs.Bytes.{shape, curveBytes};
 ghost use Rattle.rows.specs.Jobs.{startTable};
-ghost use Rattle.near.specs.Job.{listTable, Zeroed, HasListed};
+ghost use Rattle.near.specs.Job.{Zeroed, HasListed};
 ghost use Rattle.near.specs.Work.{FoundCurve};
+use poly::limits::ALLOWANCE_MOST;
+use poly::limits::CURVE_MOST;
+use poly::limits::WORKING_ROOM;
 
+mod refusals; // refusals.rt: the refusals of the list job
 mod search; // search.rt: the messages found on the curve, symbol by symbol
 
 pub struct Near {
@@ -20,39 +24,6 @@ pub struct Near {
 pub struct Weighed {
     pub updates: u16,
     pub weight: u8,
-}
-
-// The first of the refusals 1 to 9 that applies, or 0.
-fn refuse_list(
-    p: u8,
-    points: &[u8],
-    word: &[u8],
-    k: u8,
-    m: u8,
-    l: u8,
-    t: u8,
-    room: &[u8],
-    messages: &[u8],
-) -> u8
-    ensures { λ r. ⌜ First (listTable p (now (points .entry)) (now (word .entry)) k m l t (now (room .entry)) (now (messages .entry))) r ⌝ }
-{
-    let number = rows::refuse_request(p, points, word, k, m, l);
-    if number != 0 {
-        return number;
-    }
-    if t < 1 {
-        return 8;
-    }
-    if points.len() < t as usize {
-        return 8;
-    }
-    if room.len() < 32768 {
-        return 9;
-    }
-    if messages.len() < l as usize * k as usize {
-        return 9;
-    }
-    0
 }
 
 // The curve of demand 2: start, one turn with more than all updates ever needed, finish.
@@ -72,7 +43,7 @@ fn interpolate(
 {
     let started = rows::start(p, points, word, k, m, l, room);
     let note = started.note;
-    let turned = note.turn(room, 65535);
+    let turned = note.turn(room, ALLOWANCE_MOST);
     let finished = rows::finish(turned.note, room, curve);
     Weighed {
         updates: turned.updates,
@@ -106,7 +77,7 @@ pub fn list(
 ) -> Near
     ensures { λ back. ⌜ HasListed p (now (points .entry)) (now (word .entry)) k m l t (now (room .entry)) (now (room .exit)) (now (messages .entry)) (now (messages .exit)) back ⌝ }
 {
-    let number = refuse_list(p, points, word, k, m, l, t, room, messages);
+    let number = refusals::refuse_list(p, points, word, k, m, l, t, room, messages);
     if number != 0 {
         return Near {
             number,
@@ -115,9 +86,9 @@ pub fn list(
             weight: 0,
         };
     }
-    let mut curve = [0u8; 2169];
+    let mut curve = [0u8; CURVE_MOST];
     let weighed = interpolate(p, points, word, k, m, l, room, &mut curve);
-    clear(room, 32768);
+    clear(room, WORKING_ROOM);
     if m as u16 * t as u16 <= weighed.weight as u16 {
         return Near {
             number: 13,

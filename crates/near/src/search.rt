@@ -5,11 +5,12 @@ ghost use Prim.Native.Nat.{suc, _+_, _-_, _*_, _<_, _≤_};
 ghost use lib.ListN.{length, take};
 ghost use lib.Seq.{sets};
 ghost use Rattle.field.specs.Symbols.{symbols};
+ghost use Rattle.poly.specs.Limits.{widthMost};
 ghost use Rattle.poly.specs.Buffers.{Decided};
 ghost use Rattle.rows.specs.Bytes.{width};
 ghost use Rattle.near.specs.Lists.{Spelt, agreements as agreementsOf, polynomial};
 ghost use Rattle.near.specs.Search.{some?, lowest as lowestOf};
-ghost use Rattle.near.specs.Work.{curveOf, sliceOf, RootAt, Laid, Tries, Lifted, Shifted, Received, jobOf, after, with, kept, Room, Wrote, Searches, Leaves, planOf, foundOn, Runs, Ran};
+ghost use Rattle.near.specs.Work.{curveOf, sliceOf, RootAt, Laid, Tries, Lifted, Shifted, Received, taskFor, after, with, kept, Room, Wrote, Searches, Leaves, planOf, foundOn, Runs, Ran};
 use field::Symbol;
 
 pub struct Plan {
@@ -130,7 +131,7 @@ fn shift(curve: &mut [u8], plan: Plan, i: usize, c: Symbol)
 fn agreements(message: &[u8], points: &[u8], word: &[u8], plan: Plan) -> usize
     requires { ⌜ Received plan (now points) (now word) ⌝ }
     requires { ⌜ Spelt (plan .p) (plan .k) (now message) ⌝ }
-    ensures { λ r. ⌜ r ≡ agreementsOf (jobOf plan (now (points .entry)) (now (word .entry))) (length (now (points .entry))) (polynomial (jobOf plan (now (points .entry)) (now (word .entry))) (now (message .entry))) ⌝ }
+    ensures { λ r. ⌜ r ≡ agreementsOf (taskFor plan (now (points .entry)) (now (word .entry))) (length (now (points .entry))) (polynomial (taskFor plan (now (points .entry)) (now (word .entry))) (now (message .entry))) ⌝ }
 {
     let mut count = 0;
     let mut s = 0;
@@ -235,7 +236,7 @@ fn open(
 
 // The numbers of a request; n is the count of points.
 fn plan_of(p: u8, n: usize, k: u8, m: u8, l: u8, t: u8) -> Plan
-    requires { ⌜ (0 < k) × (m ≤ l) × (width n k m l ≤ 240) ⌝ }
+    requires { ⌜ (0 < k) × (m ≤ l) × (width n k m l ≤ widthMost) ⌝ }
     ensures { λ r. ⌜ r ≡ planOf p n k m l t ⌝ }
 {
     let u = k as usize - 1;

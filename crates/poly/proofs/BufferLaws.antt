@@ -7,14 +7,14 @@ use native.Mathlib.Nat.{zero-add, add-zero}
 use native.Mathlib.Decide.{decLt}
 use native.Mathlib.Omega.{arith}
 use lib.ListN.{length, getD, take, drop, length-take, length-drop, List·getD-eq-default}
-use lib.Seq.{take-all, getD-take, getD-drop}
+use lib.Seq.{take-all, getD-take, getD-drop, ext-getD}
 use Rattle.field.specs.Symbols.{Element, symbol, symbols, Listed, symbolsOf}
 use Rattle.field.specs.Kernels.{Region}
 use Rattle.field.specs.Operations.{plusBytes, timesBytes}
 use Rattle.field.proofs.SymbolLaws.{symbol-byte, zero-byte, byte-below}
 use Rattle.field.proofs.OperationLaws.{symbol-timesBytes}
 use Rattle.poly.specs.Polynomials.{Seq, tail, Below, value}
-use Rattle.poly.specs.Buffers.{AllBelow, Factors, Kept}
+use Rattle.poly.specs.Buffers.{AllBelow, Factors, Kept, Untouched}
 
 module _ (p : ℕ) (xs : List ℕ) where
   -- the bytes of xs are the coefficients of f
@@ -48,6 +48,21 @@ kept-wider by h a = record { long = a .long; same = λ q o. a .same q (⊎-elim 
 
 pub kept-longer : {at short len : ℕ} {xs ys : List ℕ} → short ≤ len → Kept at short xs ys → Kept at len xs ys
 kept-longer h a = record { long = a .long; same = λ q o. a .same q (⊎-elim inl (λ l. inr (omega arith)) o) }
+
+-- what is past the first bytes is kept
+pub untouched-none : (size : ℕ) (xs : List ℕ) → Untouched size xs xs
+untouched-none size xs = record { long = refl; same = λ q h. refl }
+
+pub untouched-then : {size : ℕ} {xs ys zs : List ℕ} → Untouched size xs ys → Untouched size ys zs → Untouched size xs zs
+untouched-then a b = record { long = b .long ∙ a .long; same = λ q h. b .same q h ∙ a .same q h }
+
+-- and with the first bytes the list is fixed
+pub untouched-unique : (size : ℕ) {before after also : List ℕ} → Untouched size before after → Untouched size before also → ((q : ℕ) → q < size → getD after q 0 ≡ getD also q 0) → after ≡ also
+untouched-unique size {before} {after} {also} a b low = ext-getD 0 after also (a .long ∙ sym (b .long)) (λ q h. go q (decLt q size))
+  where
+    go : (q : ℕ) → Dec (q < size) → getD after q 0 ≡ getD also q 0
+    go q (yes h) = low q h
+    go q (no h) = a .same q (omega arith) ∙ sym (b .same q (omega arith))
 
 -- a part of a region
 pub region-part : {p at len : ℕ} (by : ℕ) {short : ℕ} {xs : List ℕ} → by + short ≤ len → Region p at len xs → Region p (at + by) short xs

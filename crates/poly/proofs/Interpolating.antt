@@ -21,11 +21,11 @@ use Rattle.field.proofs.OperationLaws.{symbol-minusBytes, symbol-timesBytes, sy
 use Rattle.field.proofs.KernelLaws.{length-subtracted, subtracted-outside, subtracted-below, subtracted-symbol}
 use Rattle.poly.specs.Polynomials.{Seq, Series, zeroS, oneS, consS, negS, scaleS, value, lin, Distinct, locator, Through}
 use Rattle.poly.specs.Encode.{valueAt}
-use Rattle.poly.specs.Buffers.{AllBelow, from, Factors, productFrom, Product, Halves, excessOf, Places, Interpolated}
+use Rattle.poly.specs.Buffers.{AllBelow, from, Factors, productFrom, Product, Halves, correctionOf, Places, Interpolated}
 use Rattle.poly.proofs.Series.{zeroS-at, addS-at, negS-at, scaleS-at, series}
 use Rattle.poly.proofs.Evaluation.{value-more}
 use Rattle.poly.proofs.Degrees.{monic-locator}
-use Rattle.poly.proofs.Places.{distinct-apart}
+use Rattle.poly.proofs.CoprimePowers.{distinct-apart}
 use Rattle.poly.proofs.Interpolation.{interpolant-unique, locator-nonzero, next, through-next}
 use Rattle.poly.proofs.BufferLaws.{symbols-are}
 use Rattle.poly.proofs.Products.{product-low}
@@ -129,7 +129,7 @@ module _ {p : ℕ} {points word work : List ℕ} {s : ℕ} (P : Places p points 
           below = interpolated-below;
         }
 
-    pub next-subtracts : Subtracts p (excessOf p a b work) 0 32 32 work
+    pub next-subtracts : Subtracts p (correctionOf p a b work) 0 32 32 work
     next-subtracts =
         let long = t .long in
         record {
@@ -147,7 +147,7 @@ module _ {p : ℕ} {points word work : List ℕ} {s : ℕ} (P : Places p points 
     value-e = rw (length-high, interpolated-e (omega arith), value-more (Φ .ring) (symbol p a) (suc s) 32 e (monic-locator (Φ .ring) s (symbolsOf p points) .rest) (few (omega arith)))
 
     abbrev C : Element p
-    C = symbol p (excessOf p a b work)
+    C = symbol p (correctionOf p a b work)
 
     mends : productOf p C (value R (symbol p a) (suc s) e) ≡ sumOf p (value R (symbol p a) s (t .h)) (negativeOf p (symbol p b))
     mends =
@@ -168,7 +168,7 @@ module _ {p : ℕ} {points word work : List ℕ} {s : ℕ} (P : Places p points 
         go (suc (suc i)) = refl
 
     abbrev mended : List ℕ
-    mended = subtracted p (excessOf p a b work) 0 32 32 work
+    mended = subtracted p (correctionOf p a b work) 0 32 32 work
 
     abbrev h' : Seq R
     h' = next Φ s (symbolsOf p points) (symbolsOf p word) (t .h) C
@@ -177,12 +177,12 @@ module _ {p : ℕ} {points word work : List ℕ} {s : ℕ} (P : Places p points 
     mended-low i g =
         let room : 0 + 32 ≤ length work = let long = t .long in omega arith in
         let is : symbol p (getD mended (0 + i) 0) ≡ h' i =
-        subtracted-symbol p (excessOf p a b work) 0 32 work 32 i room g
+        subtracted-symbol p (correctionOf p a b work) 0 32 work 32 i room g
         ∙ rw (zero-add i, t .low i g, t .high i g, symbol-byte p (t .h i), symbol-byte p (e i), addS-at R (t .h) (negS R (scaleS R C e)) i, negS-at R (scaleS R C e) i, scaleS-at R C e i) in
-        ap (λ (n : ℕ). getD mended n 0) (sym (zero-add i)) ∙ byte-is p (h' i) (subtracted-below p (excessOf p a b work) 0 32 work 32 i room g (P .size)) is
+        ap (λ (n : ℕ). getD mended n 0) (sym (zero-add i)) ∙ byte-is p (h' i) (subtracted-below p (correctionOf p a b work) 0 32 work 32 i room g (P .size)) is
 
     mended-high : (i : ℕ) → i < 32 → from p mended 32 i ≡ e i
-    mended-high i g = rw (subtracted-outside p (excessOf p a b work) 0 32 work 32 (32 + i) (inr (omega arith)), t .high i g) (symbol-byte p (e i))
+    mended-high i g = rw (subtracted-outside p (correctionOf p a b work) 0 32 work 32 (32 + i) (inr (omega arith)), t .high i g) (symbol-byte p (e i))
 
     pub next-factors : Factors p (negByte p a ∷ 1 ∷ []) 32 32 mended
     next-factors =
@@ -192,8 +192,8 @@ module _ {p : ℕ} {points word work : List ℕ} {s : ℕ} (P : Places p points 
           short = omega arith;
           region =
               record {
-                within = let long = t .long in let same = length-subtracted p (excessOf p a b work) 0 32 work 32 in omega arith;
-                below = λ i g. rw (subtracted-outside p (excessOf p a b work) 0 32 work 32 (32 + i) (inr (omega arith))) (interpolated-below (32 + i) (let long = t .long in omega arith));
+                within = let long = t .long in let same = length-subtracted p (correctionOf p a b work) 0 32 work 32 in omega arith;
+                below = λ i g. rw (subtracted-outside p (correctionOf p a b work) 0 32 work 32 (32 + i) (inr (omega arith))) (interpolated-below (32 + i) (let long = t .long in omega arith));
               };
         }
       where
@@ -211,7 +211,7 @@ module _ {p : ℕ} {points word work : List ℕ} {s : ℕ} (P : Places p points 
     interpolated-next {after} m =
         rw add-one
         (record {
-          long = m .kept .long ∙ length-subtracted p (excessOf p a b work) 0 32 work 32 ∙ t .long;
+          long = m .kept .long ∙ length-subtracted p (correctionOf p a b work) 0 32 work 32 ∙ t .long;
           h = h';
           through = through-next Φ s (symbolsOf p points) (symbolsOf p word) (t .h) C (t .through) mends;
           low = λ i g. m .kept .same i (inl g) ∙ mended-low i g;

@@ -16,7 +16,7 @@ use Rattle.poly.proofs.Constants.{xPlus-neg}
 use Rattle.poly.proofs.Bounds.{below-null, below-add, below-neg, below-scale, below-lin}
 use Rattle.poly.proofs.Evaluation.{value-add, value-neg, value-scale, value-more, value-mul, value-one, value-xPlus}
 use Rattle.poly.proofs.Degrees.{monic-locator}
-use Rattle.poly.proofs.Places.{Apart, distinct-apart, roots-zero}
+use Rattle.poly.proofs.CoprimePowers.{Apart, distinct-apart, roots-zero}
 
 module _ {R : Ring} (L : RingLaws R) where
   open Ring R using (Car, 𝟘, 𝟙, plus as _⊕_, times as _⊗_, neg as ⊖_)

@@ -1,5 +1,6 @@
 pub mod Series
 pub mod Constants
+pub mod Monomials
 pub mod Bounds
 pub mod Evaluation
 pub mod Division
@@ -7,11 +8,12 @@ pub mod Parts
 pub mod Shift
 pub mod Orders
 pub mod Degrees
-pub mod Places
+pub mod CoprimePowers
 pub mod Interpolation
 pub mod Binomials
 pub mod TableLaws
 pub mod Encoding
+pub mod Determined
 pub mod BufferLaws
 pub mod Products
 pub mod Interpolating

@@ -7,9 +7,10 @@
 --   Factors p f at len xs   p is listed, and every byte of f and of the len bytes from `at` on is below p; len is within what a sum of products can hold
 --   productFrom p f xs at   f times that x-polynomial
 --   Kept at len xs ys       only the len bytes from `at` on may differ
+--   Untouched size xs ys    from the byte `size` on ys is as xs, and as long
 --   Product                 those bytes become the coefficients of the product, as far as they go
 --   Halves p a b work       p is listed, and a, b and all 64 bytes are below p
---   excessOf p a b work     (h (a) - b) / e (a), with h in the first 32 bytes and e in the next 32, as a byte
+--   correctionOf p a b work (h (a) - b) / e (a), with h in the first 32 bytes and e in the next 32, as a byte
 --   Places p points word    received places: p is listed, and they are at most p, as many points as symbols, all different, every byte below p
 --   Interpolated            after s places: h through them in the first 32 bytes, the product of x - point in the next 32
 use mathlib.Core.Path.{_≡_}
@@ -58,6 +59,10 @@ pub record Kept (at len : ℕ) (before after : List ℕ) : Type 0 where
   pub long : length after ≡ length before
   pub same : (q : ℕ) → (q < at) ⊎ (at + len ≤ q) → getD after q 0 ≡ getD before q 0
 
+pub record Untouched (size : ℕ) (before after : List ℕ) : Type 0 where
+  pub long : length after ≡ length before
+  pub same : (q : ℕ) → size ≤ q → getD after q 0 ≡ getD before q 0
+
 pub record Product (p : ℕ) (f : List ℕ) (at len : ℕ) (before after : List ℕ) : Type 0 where
   pub kept : Kept at len before after
   pub product : (i : ℕ) → i < len → getD after (at + i) 0 ≡ productFrom p f before at i .byte
@@ -69,8 +74,8 @@ pub record Halves (p a b : ℕ) (work : List ℕ) : Type 0 where
   pub long : length work ≡ 64
   pub below : AllBelow p work
 
-abbrev pub excessOf : ℕ → ℕ → ℕ → List ℕ → ℕ
-excessOf p a b work = timesBytes p (minusBytes p (valueAt p (take 32 work) a .byte) b) (invByte p (valueAt p (drop 32 work) a .byte))
+abbrev pub correctionOf : ℕ → ℕ → ℕ → List ℕ → ℕ
+correctionOf p a b work = timesBytes p (minusBytes p (valueAt p (take 32 work) a .byte) b) (invByte p (valueAt p (drop 32 work) a .byte))
 
 pub record Places (p : ℕ) (points word : List ℕ) : Type 0 where
   pub size : Listed p

@@ -1,9 +1,11 @@
--- The definitions on small numbers, by computation: over the field of 7, (x - 1) (x - 2) = 2 + 4 x + x^2, and at 5 that is 4 * 3, or 5; and (1 + x)^4 has 6 x^2.
+-- The definitions on small numbers, by computation: over the field of 7, (x - 1) (x - 2) = 2 + 4 x + x^2, and at 5 that is 4 * 3, or 5;
+-- (1 + x)^4 has 6 x^2; and the limits that follow from others, as numbers.
 use mathlib.Core.Path.{_≡_, refl}
 use mathlib.Core.List.{List, [], _∷_}
 use Prim.Native.Nat.{ℕ, suc}
 use Rattle.field.specs.Field.{Ring, prod}
 use Rattle.field.specs.Symbols.{symbol, symbols, sumOf, productOf, negativeOf}
+use Rattle.poly.specs.Limits.{curveMost, rowsMost, messagesMost}
 use Rattle.poly.specs.Polynomials.{Seq, zeroS, oneS, addS, mulS, consS, lin, locator, value, binomial}
 
 abbrev seven : Ring
@@ -27,3 +29,6 @@ value-example = refl
 binomial-example : binomial 4 2 ≡ 6
 unfolding binomial
 binomial-example = refl
+
+limits-example : curveMost ∷ rowsMost ∷ messagesMost ∷ [] ≡ 2169 ∷ 19521 ∷ 240 ∷ []
+limits-example = refl

@@ -1,5 +1,6 @@
 pub mod Polynomials
-pub mod Examples
+pub mod Limits
 pub mod Table
 pub mod Encode
 pub mod Buffers
+pub mod Examples

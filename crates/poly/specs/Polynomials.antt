@@ -8,6 +8,7 @@
 --   Series R           the ring of these sequences; Series (Series R) are polynomials in y whose coefficients are polynomials in x
 --   consS R c f        c + x f
 --   constS R c, xS R   c, x
+--   mono R c d         c x^d
 --   lin R a            x - a
 --   Below R N f        every coefficient from x^N on is zero: f is a polynomial of degree below N
 --   value R a N f      f (a), for a polynomial f of degree below N, by Horner's rule
@@ -63,6 +64,10 @@ module _ (R : Ring) where
 
   unfoldable pub xS : Seq
   xS = consS 𝟘 oneS
+
+  unfoldable pub mono : Car → ℕ → Seq
+  mono c zero = constS c
+  mono c (suc d) = consS 𝟘 (mono c d)
 
   unfoldable pub lin : Car → Seq
   lin a = consS (⊖ a) oneS

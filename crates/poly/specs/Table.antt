@@ -15,6 +15,7 @@ use mathlib.Core.List.{List, [], _∷_}
 use Prim.Native.Nat.{ℕ, _≤_, _<_}
 use lib.ListN.{length, getD}
 use Rattle.field.specs.Symbols.{Listed}
+use Rattle.poly.specs.Limits.{multiplicityMost, heightMost}
 
 pub record Refusal : Type 1 where
   pub number : ℕ
@@ -34,7 +35,7 @@ abbrev pub BadDegree : ℕ → ℕ → Type 0
 BadDegree n k = (k < 2) ⊎ (n ≤ k)
 
 abbrev pub BadHeights : ℕ → ℕ → Type 0
-BadHeights m l = (m < 1) ⊎ ((4 < m) ⊎ ((l < m) ⊎ (8 < l)))
+BadHeights m l = (m < 1) ⊎ ((multiplicityMost < m) ⊎ ((l < m) ⊎ (heightMost < l)))
 
 pub record TooLarge (p : ℕ) (xs : List ℕ) : Type 0 where
   pub place : ℕ

@@ -1,11 +1,16 @@
 // Polynomials in x in lent bytes, lowest power first, and the job encode.
 ghost use mathlib.Core.Path.{_≡_};
-ghost use Prim.Native.Nat.{_+_, _≤_, min};
+ghost use Prim.Native.Nat.{_+_, min};
 ghost use lib.ListN.{length};
-ghost use Rattle.poly.specs.Table.{First, TooLarge, Repeated};
-ghost use Rattle.poly.specs.Encode.{Encoded, encodeTable, valueAt};
-ghost use Rattle.poly.specs.Buffers.{Decided, Coefficients, Among, Factors, productFrom, Product, Halves, excessOf, Places, Interpolated};
+ghost use Rattle.poly.specs.Encode.{Encoded, valueAt};
+ghost use Rattle.poly.specs.Buffers.{Coefficients, Factors, productFrom, Product, Halves, correctionOf, Places, Interpolated};
 use field::Symbol;
+
+pub mod limits; // limits.rt: the limits of the numbers that a caller gives
+mod refusals; // refusals.rt: the tests of arguments, and encode's refusals
+
+pub use refusals::repeated;
+pub use refusals::too_large;
 
 // The value at a, by Horner's rule.
 pub fn value_at(coefficients: &[u8], a: u8, p: u8) -> u8
@@ -25,90 +30,11 @@ pub fn value_at(coefficients: &[u8], a: u8, p: u8) -> u8
     sum.value
 }
 
-// Whether a byte is p or more.
-pub fn too_large(xs: &[u8], p: u8) -> bool
-    ensures { λ r. ⌜ Decided r (TooLarge p (now (xs .entry))) ⌝ }
-{
-    let mut i = 0;
-    while i < xs.len() {
-        if p <= xs[i] {
-            return true;
-        }
-        i += 1;
-    }
-    false
-}
-
-// Whether x is among the first `count` bytes.
-fn among(xs: &[u8], count: usize, x: u8) -> bool
-    requires { ⌜ count ≤ length (now xs) ⌝ }
-    ensures { λ r. ⌜ Decided r (Among (now (xs .entry)) count x) ⌝ }
-{
-    let mut i = 0;
-    while i < count {
-        if xs[i] == x {
-            return true;
-        }
-        i += 1;
-    }
-    false
-}
-
-// Whether two bytes are equal.
-pub fn repeated(xs: &[u8]) -> bool
-    ensures { λ r. ⌜ Decided r (Repeated (now (xs .entry))) ⌝ }
-{
-    let mut i = 0;
-    while i < xs.len() {
-        if among(xs, i, xs[i]) {
-            return true;
-        }
-        i += 1;
-    }
-    false
-}
-
-// The first refusal of encode that applies, or 0.
-fn refuse_encode(p: u8, points: &[u8], message: &[u8], word: &[u8]) -> u8
-    ensures { λ r. ⌜ First (encodeTable p (now (points .entry)) (now (message .entry)) (now (word .entry))) r ⌝ }
-{
-    if !field::is_listed(p) {
-        return 1;
-    }
-    let n = points.len();
-    let k = message.len();
-    if n < 3 {
-        return 2;
-    }
-    if (p as usize) < n {
-        return 2;
-    }
-    if k < 2 {
-        return 4;
-    }
-    if n <= k {
-        return 4;
-    }
-    if too_large(points, p) {
-        return 6;
-    }
-    if too_large(message, p) {
-        return 6;
-    }
-    if repeated(points) {
-        return 7;
-    }
-    if word.len() < n {
-        return 9;
-    }
-    0
-}
-
 // Byte s of the word becomes the message's value at point s.
 pub fn encode(p: u8, points: &[u8], message: &[u8], word: &mut [u8]) -> u8
     ensures { λ r. ⌜ Encoded p (now (points .entry)) (now (message .entry)) (now (word .entry)) (now (word .exit)) r ⌝ }
 {
-    let number = refuse_encode(p, points, message, word);
+    let number = refusals::refuse_encode(p, points, message, word);
     if number != 0 {
         return number;
     }
@@ -148,9 +74,9 @@ pub fn multiply(xs: &mut [u8], at: usize, len: usize, f: &[u8], p: u8)
 }
 
 // With h in the first 32 bytes and e in the next 32: the multiple of e by which h is too large at a, where b is wanted.
-fn excess(work: &[u8], a: u8, b: u8, p: u8) -> Symbol
+fn correction(work: &[u8], a: u8, b: u8, p: u8) -> Symbol
     requires { ⌜ Halves p a b (now work) ⌝ }
-    ensures { λ r. ⌜ r .value ≡ excessOf p a b (now (work .entry)) ⌝ }
+    ensures { λ r. ⌜ r .value ≡ correctionOf p a b (now (work .entry)) ⌝ }
 {
     let h = Symbol {
         value: value_at(&work[..32], a, p),
@@ -174,7 +100,7 @@ pub fn interpolate(points: &[u8], word: &[u8], p: u8) -> [u8; 64]
     let mut s = 0;
     while s < n {
         let a = Symbol { value: points[s] };
-        let c = excess(&work, a.value, word[s], p);
+        let c = correction(&work, a.value, word[s], p);
         field::subtract(&mut work, 0, 32, 32, c, p);
         let factor = [a.negative(p).value, 1];
         multiply(&mut work, 32, 32, &factor, p);

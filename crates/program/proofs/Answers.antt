@@ -8,13 +8,14 @@ use native.Mathlib.Omega.{arith}
 use lib.Dec.{T}
 use lib.ListN.{length, take, replicate, length-append}
 use lib.Seq.{take-append-le, take-length}
-use Rattle.near.specs.Job.{workingRoom, HasListed}
+use Rattle.poly.specs.Limits.{messagesMost, workingRoom}
+use Rattle.near.specs.Job.{HasListed}
 use Rattle.near.specs.declared.Near.{Near}
-use Rattle.text.specs.declared.Request.{Request}
 use Rattle.text.specs.Requests.{HasRead}
 use Rattle.text.specs.Requests.HasRead.{readable, unreadable}
 use Rattle.text.specs.Answers.{reply, HasWritten}
-use Rattle.program.specs.Program.{messageRoom, Answered, unread, listed}
+use Rattle.text.specs.declared.Request.{Request}
+use Rattle.program.specs.Program.{Answered, unread, listed}
 
 true≢false : true ≡ false → ⊥
 true≢false e = subst T e tt
@@ -34,7 +35,7 @@ unread-answer (unreadable none) e w = unread none w
 -- the list that the code asks is that of the request read
 module _ {text before after : List ℕ} {r : ℕ} (left messages : List ℕ) (near : Near) where
   pub listed-answer : {back : Request} → HasRead text back → back .ok ≡ true
-      → HasListed (back .field) (take (back .n) (back .points)) (take (back .count) (back .word)) (back .k) (back .m) (back .l) (back .t) (replicate workingRoom 0) left (replicate messageRoom 0) messages near
+      → HasListed (back .field) (take (back .n) (back .points)) (take (back .count) (back .word)) (back .k) (back .m) (back .l) (back .t) (replicate workingRoom 0) left (replicate messagesMost 0) messages near
       → HasWritten (reply (near .number) (near .updates) (near .weight) (near .count) (back .k) messages) before after r → Answered text before after r
   listed-answer (readable q p) e h w = listed q p left messages near (rw (first-part (q .points) _, first-part (q .word) _) at h) w
   listed-answer (unreadable none) e h w = absurd (true≢false (sym e))

@@ -4,21 +4,22 @@ use mathlib.Core.Path.{_≡_, sym, subst}
 use mathlib.Core.List.{List}
 use Prim.Native.Nat.{ℕ}
 use lib.ListN.{replicate}
-use Rattle.near.specs.Job.{workingRoom, HasListed}
+use Rattle.poly.specs.Limits.{messagesMost, workingRoom}
+use Rattle.near.specs.Job.{HasListed}
 use Rattle.near.specs.declared.Near.{Near}
 use Rattle.near.proofs.Determined.{list-determined}
 use Rattle.text.specs.Requests.{Meaning}
 use Rattle.text.specs.Answers.{reply, HasWritten}
 use Rattle.text.proofs.Grammar.{one-meaning}
-use Rattle.text.proofs.Outcomes.{write-determined}
-use Rattle.program.specs.Program.{messageRoom, Answered, unread, listed}
+use Rattle.text.proofs.Determined.{write-determined}
+use Rattle.program.specs.Program.{Answered, unread, listed}
 
 -- what `listed` says of a request
 record Listed (q : Meaning) (before after : List ℕ) (r : ℕ) : Type 0 where
   left : List ℕ
   messages : List ℕ
   back : Near
-  lists : HasListed (q .field) (q .points) (q .word) (q .k) (q .m) (q .l) (q .t) (replicate workingRoom 0) left (replicate messageRoom 0) messages back
+  lists : HasListed (q .field) (q .points) (q .word) (q .k) (q .m) (q .l) (q .t) (replicate workingRoom 0) left (replicate messagesMost 0) messages back
   writes : HasWritten (reply (back .number) (back .updates) (back .weight) (back .count) (q .k) messages) before after r
 
 listed-determined : {q : Meaning} {before x y : List ℕ} {r s : ℕ} → Listed q before x r → Listed q before y s → (x ≡ y) × (r ≡ s)

@@ -6,13 +6,13 @@ use native.Mathlib.Decide.{ℕ-discrete, decLt}
 use native.Mathlib.Nat.{mul-le-mul}
 use native.Mathlib.Omega.{arith}
 use lib.ListN.{length, drop}
+use Rattle.poly.specs.Table.{First}
 use Rattle.near.specs.Job.{listTable, Lists, Answers, HasListed}
 use Rattle.near.specs.declared.Near.{Near}
 use Rattle.near.proofs.Listing.{Taken, list-taken}
-use Rattle.poly.specs.Table.{First}
 use Rattle.text.specs.Answers.{Reply, answer, room, HasWritten}
 use Rattle.text.specs.Answers.HasWritten.{written}
-use Rattle.text.proofs.Outcomes.{write-determined}
+use Rattle.text.proofs.Determined.{write-determined}
 use Rattle.program.specs.Program.{Answered, unread, listed}
 
 -- the messages are few and short, and all there

@@ -2,6 +2,8 @@
 ghost use Prim.Native.Nat.{_≤_};
 ghost use lib.ListN.{length};
 ghost use Rattle.program.specs.Program.{Answered};
+use poly::limits::MESSAGES_MOST;
+use poly::limits::WORKING_ROOM;
 
 // The answer to a text, at the beginning of `out`; how long it is.
 pub fn answer(text: &[u8], out: &mut [u8]) -> usize
@@ -15,8 +17,8 @@ pub fn answer(text: &[u8], out: &mut [u8]) -> usize
     let count = request.count as usize;
     let points = request.points;
     let word = request.word;
-    let mut room = [0u8; 32768];
-    let mut messages = [0u8; 240];
+    let mut room = [0u8; WORKING_ROOM];
+    let mut messages = [0u8; MESSAGES_MOST];
     let near = near::list(
         request.field,
         &points[..n],

@@ -12,8 +12,7 @@ use Rattle.poly.specs.Table.{First}
 use Rattle.poly.specs.Buffers.{Places}
 use Rattle.poly.proofs.TableLaws.{listed-passed, below-passed, Passed, first-passed}
 use Rattle.rows.specs.Bytes.{shape, rowsBytes}
-use Rattle.rows.specs.Jobs.{startTable}
-use Rattle.rows.specs.Work.{requestTable}
+use Rattle.rows.specs.Jobs.{startTable, requestTable}
 use Rattle.rows.proofs.Notes.{GoodHeights, good-heights, GoodNote}
 
 module _ (p : ℕ) (points word : List ℕ) (k m l : ℕ) where

@@ -2,28 +2,32 @@
 use mathlib.Core.Path.{_≡_, refl, sym, ap, _∙_}
 use mathlib.Core.Logic.{_⊎_, inl, inr}
 use mathlib.Core.List.{List, [], _∷_, _++_}
-use Prim.Native.Nat.{ℕ, zero, suc, _+_, _-_, _*_, _≤_, _<_, min}
-use native.Mathlib.Nat.{mul-le-mul}
+use Prim.Native.Nat.{ℕ, suc, _+_, _-_, _*_, _≤_, _<_, min}
 use native.Mathlib.Omega.{arith}
 use lib.ListN.{length, take}
 use lib.Seq.{getD-take, length-take-le}
-use Rattle.field.specs.Field.{Ring, Field, FieldLaws}
+use Rattle.field.specs.Field.{Field, FieldLaws}
 use Rattle.field.specs.Symbols.{symbols, symbolsOf}
-use Rattle.field.proofs.RingLaws.{mul-zero}
-use Rattle.field.proofs.FieldLaws.{no-zero-divisor}
 use Rattle.field.proofs.SymbolLaws.{symbols-field}
 use Rattle.poly.specs.Polynomials.{locator}
 use Rattle.poly.specs.Buffers.{AllBelow}
 use Rattle.poly.proofs.TableLaws.{first-determined, none-large}
 use Rattle.poly.proofs.Interpolation.{interpolate}
 use Rattle.poly.proofs.Interpolating.{places-distinct}
-use Rattle.rows.specs.Curves.{Curve, Lead, Smallest}
-use Rattle.rows.specs.Start.{startRow, total, formula}
-use Rattle.rows.specs.Turns.{Outcome, stops, Turn, finished, rises, pauses, updates, halts}
-use Rattle.rows.proofs.Promises.{allowed, after, Run, none, Promised}
-use Rattle.rows.specs.Finish.{monic}
+use Rattle.curves.specs.Curves.{Curve, Smallest}
+use Rattle.curves.specs.Start.{startRow, total}
+use Rattle.curves.specs.Turns.{Outcome, stops, Turn, finished, updates}
+use Rattle.curves.specs.Finish.{monic}
+use Rattle.curves.proofs.Promises.{allowed, after, Run, none, Promised}
+use Rattle.curves.proofs.Leads.{lead-light}
+use Rattle.curves.proofs.Turns.{turn-onward}
+use Rattle.curves.proofs.Least.{monic-weight, monic-height}
+use Rattle.curves.proofs.Runs.{run-then, allowed-then, allowed-some}
+use Rattle.curves.proofs.Formula.{formula-is, formula-positive}
+use Rattle.curves.proofs.FlatRows.{turn-flat}
+use Rattle.curves.proofs.Passing.{Begins, begins-same, promised, run-generates, run-smallest, run-unique, begins-start, passing-curve-exists}
 use Rattle.rows.specs.Bytes.{rowsBytes, curveBytes, rowsOf}
-use Rattle.rows.specs.Jobs.{AsLeft, HasTurned, HasHeight, HasFinished, Hands, turnTable, finishTable}
+use Rattle.rows.specs.Jobs.{AsLeft, HasTurned, HasFinished, Hands, turnTable, finishTable}
 use Rattle.rows.specs.Work.{Bytes}
 use Rattle.rows.specs.Demands.{Request, ringFor, shapeFor, noteFor, updatesBound, Member, Begun, Driven, started, turned, HandsCurve, Pause}
 use Rattle.rows.specs.declared.Note.{Note}
@@ -31,73 +35,15 @@ use Rattle.rows.specs.declared.Shape.{Shape}
 use Rattle.rows.specs.declared.Started.{Started}
 use Rattle.rows.specs.declared.Turned.{Turned}
 use Rattle.rows.specs.declared.Finished.{Finished}
-use Rattle.rows.proofs.Leads.{lead-unique, lead-light}
-use Rattle.rows.proofs.Monomials.{delay-zero}
-use Rattle.rows.proofs.Crossing.{times-mono}
-use Rattle.rows.proofs.Runs.{run-then, allowed-then}
-use Rattle.rows.proofs.Formula.{formula-is}
-use Rattle.rows.proofs.Places.{holds-bytes}
+use Rattle.rows.proofs.Placing.{holds-bytes}
 use Rattle.rows.proofs.Notes.{GoodNote, good-fine, not-bad}
-use Rattle.rows.proofs.Boxes.{turn-flat, rowsOf-flat, holds-row, holds-flat}
+use Rattle.rows.proofs.HeldRows.{rowsOf-flat, holds-row, holds-flat}
 use Rattle.rows.proofs.Accepted.{Accepted, start-accepted, accepted-note}
-use Rattle.rows.proofs.Passing.{Begins, begins-same, promised, run-generates, run-smallest, run-unique, begins-start, passing-curve-exists}
-
-turn-onward : {F : Field} {u l a r : ℕ} {rows : ℕ → Curve (F .ring)} {o : Outcome F} → Turn F u l a rows r o → r ≤ o .row
-turn-onward (finished h) = omega arith
-turn-onward (rises w h p t) = let k = turn-onward t in omega arith
-turn-onward (pauses w s h p n) = omega arith
-turn-onward (updates w s v d n t) = turn-onward t
-turn-onward (halts w s v d z) = omega arith
 
 all-below : {S : Shape} {xs : List ℕ} → Bytes S xs → AllBelow (S .p) (take (rowsBytes S) xs)
 all-below {S} {xs} b i h =
     let e = length-take-le (rowsBytes S) xs (b .room) in
     rw (getD-take (rowsBytes S) xs i 0 (omega arith)) (b .below i (omega arith))
-
-formula-positive : (n k m l : ℕ) → k < n → 1 ≤ m → 0 < formula n k m l
-unfolding total
-formula-positive n k zero l kn h = absurd (omega arith)
-formula-positive n k (suc m) l kn h =
-    let x : 1 * 1 ≤ (n - k) * total (suc m) (λ r. r * r) = mul-le-mul {n₁ = 1} {m₁ = 1} {n₂ = n - k} {m₂ = total (suc m) (λ r. r * r)} (omega arith) (omega arith) in
-    omega arith
-
-allowed-some : (list : List ℕ) → 0 < allowed list → 0 < length list
-unfolding allowed
-allowed-some [] h = absurd (omega arith)
-allowed-some (a ∷ list) h = omega arith
-
--- a curve made monic leads with the same term and is as high
-module _ {p : ℕ} (Φ : FieldLaws (symbols p)) {u w s : ℕ} {Q : Curve (symbols p .ring)} (lead : Lead (symbols p .ring) u w s Q) where
-  open Ring (symbols p .ring) using (Car, 𝟘, times as _⊗_)
-
-  infixl 70 _⊗_
-  abbrev x : Car
-  x = Q s (w - u * s)
-
-  abbrev c : Car
-  c = symbols p .inv x
-
-  abbrev P : Curve (symbols p .ring)
-  P = monic (symbols p) u w s Q
-
-  scaled : (j i : ℕ) → P j i ≡ c ⊗ Q j i
-  scaled j i = times-mono (Φ .ring) c 0 Q j i ∙ ap (λ (y : Car). c ⊗ y) (delay-zero (symbols p .ring) (Q j) i)
-
-  scaled-null : (j i : ℕ) → Q j i ≡ 𝟘 → P j i ≡ 𝟘
-  scaled-null j i z = scaled j i ∙ ap (λ (y : Car). c ⊗ y) z ∙ mul-zero (Φ .ring) c
-
-  null-scaled : (j i : ℕ) → P j i ≡ 𝟘 → Q j i ≡ 𝟘
-  null-scaled j i z =
-      let pw = lead .weight in
-      let d : w - u * s ≡ lead .degree = omega arith in
-      let one = Φ .inverse x (λ y. lead .nonzero (ap (Q s) (sym d) ∙ y)) in
-      no-zero-divisor Φ c (Q j i) (λ y. Φ .one≢zero (sym one ∙ ap (λ (t : Car). x ⊗ t) y ∙ mul-zero (Φ .ring) x)) (sym (scaled j i) ∙ z)
-
-  monic-weight : {v t : ℕ} → Lead (symbols p .ring) u v t P → v ≡ w
-  monic-weight q = lead-unique q (record { degree = lead .degree; weight = lead .weight; nonzero = λ z. lead .nonzero (null-scaled s (lead .degree) z); rest = λ j i le f. scaled-null j i (lead .rest j i le f) }) .0
-
-  monic-height : {j : ℕ} → HasHeight p Q j → HasHeight p P j
-  monic-height {j} h = record { above = λ i e k. scaled-null i e (h .above i e k); some = let (e, n) = h .some in (e, λ z. n (null-scaled j e z)) }
 
 -- by how much row r may weigh more than u r and the degree of its coefficient of y^r
 abbrev surplus : Request → ℕ → ℕ

@@ -11,11 +11,16 @@ use Rattle.field.specs.Field.{Ring, Field, FieldLaws}
 use Rattle.field.specs.Symbols.{symbols}
 use Rattle.field.proofs.SymbolLaws.{symbols-field}
 use Rattle.poly.specs.Table.{First}
+use Rattle.poly.specs.Buffers.{Untouched}
 use Rattle.poly.proofs.TableLaws.{first-passed}
-use Rattle.rows.specs.Curves.{Curve, Zero, Lead}
-use Rattle.rows.specs.Turns.{Outcome, stops, counted, Turn, finished, rises, pauses, updates, halts, update}
-use Rattle.rows.specs.Entry.{Sound}
-use Rattle.rows.specs.Bytes.{rowsBytes, rowsOf, Holds, Untouched}
+use Rattle.poly.proofs.BufferLaws.{untouched-then}
+use Rattle.curves.specs.Curves.{Curve, Zero, Lead}
+use Rattle.curves.specs.Turns.{Outcome, stops, counted, Turn, finished, rises, pauses, updates, halts, update}
+use Rattle.curves.specs.Entry.{Sound}
+use Rattle.curves.proofs.Leads.{lead-unique, lead-within}
+use Rattle.curves.proofs.Entry.{sound-rises, sound-below, sound-update}
+use Rattle.curves.proofs.FlatRows.{update-flat}
+use Rattle.rows.specs.Bytes.{rowsBytes, rowsOf, Holds}
 use Rattle.rows.specs.Jobs.{shapeOf, atRow, turnTable}
 use Rattle.rows.specs.Work.{Bytes, FoundLead, Crosses, Ready, Went}
 use Rattle.rows.specs.declared.Note.{Note}
@@ -23,15 +28,11 @@ use Rattle.rows.specs.declared.Shape.{Shape}
 use Rattle.rows.specs.declared.Turned.{Turned}
 use Rattle.rows.specs.declared.leading.Found.{Found}
 use Rattle.rows.proofs.Notes.{good-note, good-fine}
-use Rattle.rows.proofs.Soundness.{bytes-below}
-use Rattle.rows.proofs.Stability.{as-left-stable}
-use Rattle.rows.proofs.Leads.{lead-unique, lead-within}
-use Rattle.rows.proofs.Entry.{sound-rises, sound-below, sound-update}
-use Rattle.rows.proofs.Places.{holds-bytes, holds-own, light-row}
-use Rattle.rows.proofs.Boxes.{update-flat, rowsOf-flat, holds-flat}
-use Rattle.rows.proofs.Finding.{found-lead}
-use Rattle.rows.proofs.CrossedRows.{due}
-use Rattle.rows.proofs.Regions.{untouched-then}
+use Rattle.rows.proofs.sound.Soundness.{bytes-below, as-left-stable}
+use Rattle.rows.proofs.Placing.{holds-bytes, holds-own, light-row}
+use Rattle.rows.proofs.HeldRows.{rowsOf-flat, holds-flat}
+use Rattle.rows.proofs.leading.Finding.{found-lead}
+use Rattle.rows.proofs.update.CrossedRows.{due}
 
 -- n updates made before
 abbrev pub more : {F : Field} → ℕ → Outcome F → Outcome F

@@ -7,15 +7,14 @@
 --   rowsOf S xs         the rows that the bytes xs are; zero outside of the slots: within test n  n where the test holds, else 0
 --   Holds S xs rows     the bytes xs are these rows, each coefficient below p
 --   HoldsCurve S xs Q   the bytes xs are the curve Q
---   Untouched size xs ys    from the byte `size` on ys is as xs, and as long
 use mathlib.Core.Path.{_≡_}
 use mathlib.Core.Bool.{Bool, true, false}
 use mathlib.Core.List.{List}
 use Prim.Native.Nat.{ℕ, suc, _+_, _-_, _*_, _≤_}
 use lib.Dec.{leb}
-use lib.ListN.{length, getD}
+use lib.ListN.{getD}
 use Rattle.field.specs.Symbols.{symbol, symbols}
-use Rattle.rows.specs.Curves.{Curve}
+use Rattle.curves.specs.Curves.{Curve}
 use Rattle.rows.specs.declared.Shape.{Shape}
 
 abbrev pub width : ℕ → ℕ → ℕ → ℕ → ℕ
@@ -48,7 +47,3 @@ Holds S xs rows = (i j e : ℕ) → i ≤ S .l → j ≤ S .l → e ≤ S .width
 
 abbrev pub HoldsCurve : (S : Shape) → List ℕ → Curve (symbols (S .p) .ring) → Type 0
 HoldsCurve S xs Q = (j e : ℕ) → j ≤ S .l → e ≤ S .width → getD xs (j * slot S + e) 0 ≡ Q j e .byte
-
-pub record Untouched (size : ℕ) (before after : List ℕ) : Type 0 where
-  pub long : length after ≡ length before
-  pub same : (q : ℕ) → size ≤ q → getD after q 0 ≡ getD before q 0

@@ -3,6 +3,7 @@
 --   ringFor q, shapeFor q, noteFor q r   its symbols, the numbers by which its bytes are read, and its note with r as the current row
 --   updatesBound q the formula
 --   Member q Q     Q is zero or one of the curves of demand 2
+--   TheCurve q Q   Q is the curve of demand 2: of those, the monic nonzero one with the smallest leading term
 --   Begun          start accepts the request
 --   Driven         such a start, then any number of turns, each on the rows that the last one left and with the note that it gave
 --   Pause          what holds at every pause (demand 3)
@@ -14,10 +15,10 @@ use Prim.Native.Nat.{ℕ, suc, _+_, _-_, _≤_, _<_}
 use lib.ListN.{length}
 use Rattle.field.specs.Field.{Ring}
 use Rattle.field.specs.Symbols.{symbols, symbolsOf}
-use Rattle.rows.specs.Curves.{Curve, LeadsAt, Span, Smallest, Passing}
-use Rattle.rows.specs.Start.{formula}
+use Rattle.curves.specs.Curves.{Curve, HasHeight, LeadsAt, Span, Smallest, Passing}
+use Rattle.curves.specs.Start.{formula}
 use Rattle.rows.specs.Bytes.{shape, curveBytes, rowsOf, HoldsCurve}
-use Rattle.rows.specs.Jobs.{HasStarted, HasTurned, HasHeight, HasFinished}
+use Rattle.rows.specs.Jobs.{HasStarted, HasTurned, HasFinished}
 use Rattle.rows.specs.declared.Note.{Note}
 use Rattle.rows.specs.declared.Shape.{Shape}
 use Rattle.rows.specs.declared.Started.{Started}
@@ -48,6 +49,9 @@ module _ (q : Request) where
   abbrev pub Member : Curve ringFor → Type 0
   Member = Passing ringFor (length (q .points)) (q .m) (q .l) (symbolsOf (q .p) (q .points)) (symbolsOf (q .p) (q .word))
 
+  abbrev pub TheCurve : Curve ringFor → Type 0
+  TheCurve = Smallest ringFor (q .k - 1) Member
+
   abbrev pub Begun : List ℕ → List ℕ → Started → Type 0
   Begun before after back = HasStarted (q .p) (q .points) (q .word) (q .k) (q .m) (q .l) before after back × (back .number ≡ 0)
 
@@ -60,12 +64,12 @@ module _ (q : Request) where
   pub record HandsCurve (curve : List ℕ) (back : Finished) : Type 0 where
     pub done : back .number ≡ 0
     pub Q : Curve ringFor
-    pub smallest : Smallest ringFor (q .k - 1) Member Q
-    pub only : (P : Curve ringFor) → Smallest ringFor (q .k - 1) Member P → P ≡ Q
+    pub smallest : TheCurve Q
+    pub only : (P : Curve ringFor) → TheCurve P → P ≡ Q
     pub bytes : HoldsCurve shapeFor curve Q
     pub weight : back .weight ≡ smallest .weight
     pub light : smallest .weight ≤ shapeFor .width
-    pub height : HasHeight (q .p) Q (back .height)
+    pub height : HasHeight ringFor Q (back .height)
 
   pub record Pause (allowed : ℕ) (rows : List ℕ) (note : Note) (total : ℕ) : Type 0 where
     -- the next turn, whatever its allowance, is accepted and goes by the rule to its end: the late 11 does not come

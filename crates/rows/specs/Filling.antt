@@ -18,8 +18,8 @@ use Rattle.field.specs.Lists.{tabulate}
 use Rattle.field.specs.Symbols.{symbols, symbolsOf}
 use Rattle.poly.specs.Polynomials.{Series, mulS, lin}
 use Rattle.poly.specs.Buffers.{AllBelow, from, Kept}
-use Rattle.rows.specs.Curves.{Curve}
-use Rattle.rows.specs.Start.{startRow}
+use Rattle.curves.specs.Curves.{Curve}
+use Rattle.curves.specs.Start.{startRow}
 use Rattle.rows.specs.Bytes.{slot, curveBytes, rowsBytes, place, Holds}
 use Rattle.rows.specs.Work.{Fine}
 use Rattle.rows.specs.declared.Shape.{Shape}

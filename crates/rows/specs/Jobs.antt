@@ -3,26 +3,27 @@
 --   shapeOf note           the numbers by which the bytes of its rows are read
 --   AsLeft S r xs          the rows are as a turn leaves them; 11 if they are not
 --   atRow note r           the note with r as its current row; noNote  all zeros
+--   requestTable           the refusals 1 to 7 of a request, with which start and list begin
 --   startTable, turnTable, finishTable   the refusals of each job, in order
 --   HasStarted             what start hands back and leaves in the lent rows
 --   Goes                   an accepted turn goes by the rule and hands over what the rule leaves; HasTurned  the same with refusals
 --   withNote made note     what a turn in place hands back, with the note that it leaves
---   HasHeight p Q j        the nonzero curve Q has height j
 --   Hands                  finish hands over the lightest row, made monic, with its weight and height; HasFinished  the same with refusals
 use mathlib.Core.Path.{_≡_}
 use mathlib.Core.Logic.{_⊎_}
-use mathlib.Core.List.{List, [], _∷_}
+use mathlib.Core.List.{List, [], _∷_, _++_}
 use Prim.Native.Nat.{ℕ, suc, _-_, _<_}
 use lib.ListN.{length, take}
 use Rattle.field.specs.Symbols.{symbols, symbolsOf}
 use Rattle.poly.specs.Polynomials.{Seq, locator, Through}
 use Rattle.poly.specs.Table.{Refusal, First, NotListed, BadCount, BadDegree, BadHeights, TooLarge, Repeated, TooShort}
-use Rattle.rows.specs.Curves.{Curve, Height}
-use Rattle.rows.specs.Start.{startRow}
-use Rattle.rows.specs.Turns.{Outcome, Turn}
-use Rattle.rows.specs.Entry.{Sound}
-use Rattle.rows.specs.Finish.{Lightest, monic}
-use Rattle.rows.specs.Bytes.{shape, curveBytes, rowsBytes, rowsOf, Holds, HoldsCurve, Untouched}
+use Rattle.poly.specs.Buffers.{Untouched}
+use Rattle.curves.specs.Curves.{Curve, HasHeight}
+use Rattle.curves.specs.Start.{startRow}
+use Rattle.curves.specs.Turns.{Outcome, Turn}
+use Rattle.curves.specs.Entry.{Sound}
+use Rattle.curves.specs.Finish.{Lightest, monic}
+use Rattle.rows.specs.Bytes.{shape, curveBytes, rowsBytes, rowsOf, Holds, HoldsCurve}
 use Rattle.rows.specs.declared.Note.{Note}
 use Rattle.rows.specs.declared.Shape.{Shape}
 use Rattle.rows.specs.declared.Started.{Started}
@@ -52,8 +53,9 @@ noNote = record { p = 0; n = 0; k = 0; m = 0; l = 0; r = 0 }
 
 -- start
 
-abbrev pub startTable : ℕ → List ℕ → List ℕ → ℕ → ℕ → ℕ → List ℕ → List Refusal
-startTable p points word k m l rows =
+-- the refusals of a request, before that of the lent bytes
+abbrev pub requestTable : ℕ → List ℕ → List ℕ → ℕ → ℕ → ℕ → List Refusal
+requestTable p points word k m l =
     record { number = 1; applies = NotListed p } ∷
     record { number = 2; applies = BadCount p (length points) } ∷
     record { number = 3; applies = length word ≡ length points → ⊥ } ∷
@@ -61,6 +63,11 @@ startTable p points word k m l rows =
     record { number = 5; applies = BadHeights m l } ∷
     record { number = 6; applies = TooLarge p points ⊎ TooLarge p word } ∷
     record { number = 7; applies = Repeated points } ∷
+    []
+
+abbrev pub startTable : ℕ → List ℕ → List ℕ → ℕ → ℕ → ℕ → List ℕ → List Refusal
+startTable p points word k m l rows =
+    requestTable p points word k m l ++
     record { number = 9; applies = TooShort (rowsBytes (shape p (length points) k m l)) rows } ∷
     []
 
@@ -109,15 +116,11 @@ finishTable note rows curve =
     record { number = 11; applies = AsLeft (shapeOf note) (note .r) rows → ⊥ } ∷
     []
 
-pub record HasHeight (p : ℕ) (Q : Curve (symbols p .ring)) (j : ℕ) : Type 0 where
-  pub above : Height (symbols p .ring) (suc j) Q
-  pub some : (e : ℕ) × (Q j e ≡ symbols p .ring .𝟘 → ⊥)
-
 pub record Hands (S : Shape) (rows : ℕ → Curve (symbols (S .p) .ring)) (curve : List ℕ) (weight height : ℕ) : Type 0 where
   pub row : ℕ
   pub lightest : Lightest (symbols (S .p) .ring) (S .u) (S .l) rows row weight
   pub bytes : HoldsCurve S curve (monic (symbols (S .p)) (S .u) weight row (rows row))
-  pub tall : HasHeight (S .p) (rows row) height
+  pub tall : HasHeight (symbols (S .p) .ring) (rows row) height
 
 pub record HasFinished (note : Note) (rows before after : List ℕ) (back : Finished) : Type 0 where
   pub first : First (finishTable note rows before) (back .number)

@@ -1,11 +1,5 @@
-pub mod Curves
-pub mod Start
-pub mod Turns
-pub mod Entry
 pub mod Bytes
 pub mod Jobs
 pub mod Work
-pub mod Finish
 pub mod Demands
-pub mod Examples
 pub mod Filling

@@ -14,25 +14,25 @@
 --   Whole S xs          rows of which each leads at its own power of y
 --   HandsOver           what handing over a row asks: where it leads, and room for the curve
 --   copiedFrom src at len xs   the first `len` bytes become those of src from `at` on
---   requestTable        the refusals of a request, before that of the lent bytes
 use mathlib.Core.Path.{_≡_}
 use mathlib.Core.Bool.{true, false}
 use mathlib.Core.Logic.{_⊎_}
-use mathlib.Core.List.{List, []}
+use mathlib.Core.List.{List}
 use Prim.Native.Nat.{ℕ, zero, suc, _+_, _-_, _*_, _≤_, _<_, max}
 use lib.Dec.{leb}
-use lib.ListN.{length, getD, take}
+use lib.ListN.{length, getD}
 use lib.Seq.{sets}
 use Rattle.field.specs.Field.{Ring}
 use Rattle.field.specs.Lists.{tabulate}
 use Rattle.field.specs.Symbols.{Listed, symbols}
 use Rattle.field.specs.Operations.{minusBytes, timesBytes}
 use Rattle.field.specs.Kernels.{Region}
-use Rattle.poly.specs.Table.{Refusal}
-use Rattle.rows.specs.Curves.{Curve, Height, Zero, Under, Lead, LeadsAt}
-use Rattle.rows.specs.Entry.{Sound}
-use Rattle.rows.specs.Bytes.{slot, rowsBytes, curveBytes, within, rowsOf, place, Untouched}
-use Rattle.rows.specs.Jobs.{startTable, BadNote, shapeOf, Goes}
+use Rattle.poly.specs.Limits.{fieldMost, widthMost, heightMost}
+use Rattle.poly.specs.Buffers.{Untouched}
+use Rattle.curves.specs.Curves.{Curve, Height, Zero, Under, Lead, LeadsAt}
+use Rattle.curves.specs.Entry.{Sound}
+use Rattle.rows.specs.Bytes.{slot, rowsBytes, curveBytes, within, rowsOf, place}
+use Rattle.rows.specs.Jobs.{BadNote, shapeOf, Goes}
 use Rattle.rows.specs.declared.Shape.{Shape}
 use Rattle.rows.specs.declared.Note.{Note}
 use Rattle.rows.specs.declared.Turned.{Turned}
@@ -40,9 +40,9 @@ use Rattle.rows.specs.declared.leading.Found.{Found}
 
 pub record Fine (S : Shape) : Type 0 where
   pub size : Listed (S .p)
-  pub lift : S .u < 31
-  pub wide : S .width ≤ 240
-  pub high : S .l ≤ 8
+  pub lift : S .u < fieldMost
+  pub wide : S .width ≤ widthMost
+  pub high : S .l ≤ heightMost
   pub whole : S .u * S .l ≤ S .width
 
 -- a coefficient that has a place
@@ -147,6 +147,3 @@ pub record HandsOver (S : Shape) (xs : List ℕ) (row weight : ℕ) (curve : Lis
 
 unfoldable pub copiedFrom : List ℕ → ℕ → ℕ → List ℕ → List ℕ
 copiedFrom src at len xs = sets xs 0 (tabulate len (λ i. getD src (at + i) 0))
-
-abbrev pub requestTable : ℕ → List ℕ → List ℕ → ℕ → ℕ → ℕ → List Refusal
-requestTable p points word k m l = take 7 (startTable p points word k m l [])

@@ -1,18 +1,18 @@
 // The rows of an interpolation in lent bytes: start, turn and finish.
 ghost use mathlib.Core.Path.{_≡_};
 ghost use Prim.Native.Nat.{_+_, _-_, _*_, _<_};
-ghost use Rattle.poly.specs.Table.{First, BadHeights};
-ghost use Rattle.poly.specs.Buffers.{Decided};
-ghost use Rattle.rows.specs.Jobs.{HasStarted, HasTurned, HasFinished, startTable, turnTable, finishTable, BadNote, atRow, withNote};
-ghost use Rattle.rows.specs.Work.{requestTable, Ready, Went};
-use field::Symbol;
+ghost use Rattle.rows.specs.Jobs.{HasStarted, HasTurned, HasFinished, atRow, withNote};
+ghost use Rattle.rows.specs.Work.{Ready, Went};
 
 mod layout; // layout.rt: how curves and rows lie in bytes
+mod refusals; // refusals.rt: the refusals of each job
 mod fill; // fill.rt: the rows that a start fills
 mod leading; // leading.rt: leading terms
 mod sound; // sound.rt: whether rows are as a turn leaves them
 mod update; // update.rt: one update
 mod lightest; // lightest.rt: the lightest row
+
+pub use refusals::refuse_request;
 
 pub struct Note {
     pub p: u8,
@@ -54,64 +54,11 @@ pub struct Finished {
     pub height: u8,
 }
 
-// The first of the refusals 1 to 7 that applies, or 0.
-pub fn refuse_request(p: u8, points: &[u8], word: &[u8], k: u8, m: u8, l: u8) -> u8
-    ensures { λ r. ⌜ First (requestTable p (now (points .entry)) (now (word .entry)) k m l) r ⌝ }
-{
-    if !field::is_listed(p) {
-        return 1;
-    }
-    let n = points.len();
-    if n < 3 {
-        return 2;
-    }
-    if (p as usize) < n {
-        return 2;
-    }
-    if word.len() != n {
-        return 3;
-    }
-    if k < 2 {
-        return 4;
-    }
-    if n <= k as usize {
-        return 4;
-    }
-    if bad_heights(m, l) {
-        return 5;
-    }
-    if poly::too_large(points, p) {
-        return 6;
-    }
-    if poly::too_large(word, p) {
-        return 6;
-    }
-    if poly::repeated(points) {
-        return 7;
-    }
-    0
-}
-
-// The first refusal of start that applies, or 0.
-fn refuse_start(p: u8, points: &[u8], word: &[u8], k: u8, m: u8, l: u8, rows: &[u8]) -> u8
-    ensures { λ r. ⌜ First (startTable p (now (points .entry)) (now (word .entry)) k m l (now (rows .entry))) r ⌝ }
-{
-    let number = refuse_request(p, points, word, k, m, l);
-    if number != 0 {
-        return number;
-    }
-    let shape = layout::of(p, points.len() as u8, k, m, l);
-    if rows.len() < layout::rows_bytes(shape) {
-        return 9;
-    }
-    0
-}
-
 // h and e, then the rows of corollary 14.
 pub fn start(p: u8, points: &[u8], word: &[u8], k: u8, m: u8, l: u8, rows: &mut [u8]) -> Started
     ensures { λ back. ⌜ HasStarted p (now (points .entry)) (now (word .entry)) k m l (now (rows .entry)) (now (rows .exit)) back ⌝ }
 {
-    let number = refuse_start(p, points, word, k, m, l, rows);
+    let number = refusals::refuse_start(p, points, word, k, m, l, rows);
     if number != 0 {
         return Started {
             number,
@@ -142,72 +89,12 @@ pub fn start(p: u8, points: &[u8], word: &[u8], k: u8, m: u8, l: u8, rows: &mut 
     }
 }
 
-// Whether m or l is out of its range.
-fn bad_heights(m: u8, l: u8) -> bool
-    ensures { λ b. ⌜ Decided b (BadHeights m l) ⌝ }
-{
-    if m < 1 {
-        return true;
-    }
-    if 4 < m {
-        return true;
-    }
-    if l < m {
-        return true;
-    }
-    8 < l
-}
-
-// Whether 1, 2, 4 or 5 applies to the note, or r is outside 1 to l + 1.
-fn bad_note(note: Note) -> bool
-    ensures { λ b. ⌜ Decided b (BadNote note) ⌝ }
-{
-    if !field::is_listed(note.p) {
-        return true;
-    }
-    if note.n < 3 {
-        return true;
-    }
-    if note.p < note.n {
-        return true;
-    }
-    if note.k < 2 {
-        return true;
-    }
-    if note.n <= note.k {
-        return true;
-    }
-    if bad_heights(note.m, note.l) {
-        return true;
-    }
-    if note.r < 1 {
-        return true;
-    }
-    note.l + 1 < note.r
-}
-
-fn refuse_turn(note: Note, rows: &[u8]) -> u8
-    ensures { λ r. ⌜ First (turnTable note (now (rows .entry))) r ⌝ }
-{
-    if bad_note(note) {
-        return 10;
-    }
-    let shape = layout::of(note.p, note.n, note.k, note.m, note.l);
-    if rows.len() < layout::rows_bytes(shape) {
-        return 9;
-    }
-    if !sound::sound(rows, shape, note.r as usize) {
-        return 11;
-    }
-    0
-}
-
 impl Note {
     // A turn: at most `allowance` updates by the rule, from the note's row on.
     pub fn turn(self, rows: &mut [u8], allowance: u16) -> Turned
         ensures { λ back. ⌜ HasTurned self allowance (now (rows .entry)) (now (rows .exit)) back ⌝ }
     {
-        let entry = refuse_turn(self, rows);
+        let entry = refusals::refuse_turn(self, rows);
         if entry != 0 {
             return Turned {
                 number: entry,
@@ -289,33 +176,11 @@ fn go(note: Note, rows: &mut [u8], allowance: u16) -> Turned
     }
 }
 
-fn refuse_finish(note: Note, rows: &[u8], curve: &[u8]) -> u8
-    ensures { λ r. ⌜ First (finishTable note (now (rows .entry)) (now (curve .entry))) r ⌝ }
-{
-    if bad_note(note) {
-        return 10;
-    }
-    let shape = layout::of(note.p, note.n, note.k, note.m, note.l);
-    if rows.len() < layout::rows_bytes(shape) {
-        return 9;
-    }
-    if curve.len() < layout::curve_bytes(shape) {
-        return 9;
-    }
-    if note.r < note.l + 1 {
-        return 12;
-    }
-    if !sound::sound(rows, shape, note.r as usize) {
-        return 11;
-    }
-    0
-}
-
 // The lightest row, made monic.
 pub fn finish(note: Note, rows: &[u8], curve: &mut [u8]) -> Finished
     ensures { λ back. ⌜ HasFinished note (now (rows .entry)) (now (curve .entry)) (now (curve .exit)) back ⌝ }
 {
-    let number = refuse_finish(note, rows, curve);
+    let number = refusals::refuse_finish(note, rows, curve);
     if number != 0 {
         return Finished {
             number,

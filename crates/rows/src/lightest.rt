@@ -2,10 +2,11 @@
 ghost use mathlib.Core.Path.{_≡_};
 ghost use Prim.Native.Nat.{_+_, _-_, _*_, _<_, _≤_};
 ghost use lib.ListN.{length};
-ghost use Rattle.rows.specs.Bytes.{rowsOf, curveBytes, HoldsCurve, Untouched};
 ghost use Rattle.field.specs.Symbols.{symbols};
-ghost use Rattle.rows.specs.Finish.{Lightest, monic};
-ghost use Rattle.rows.specs.Jobs.{HasHeight};
+ghost use Rattle.poly.specs.Buffers.{Untouched};
+ghost use Rattle.curves.specs.Finish.{Lightest, monic};
+ghost use Rattle.curves.specs.Curves.{HasHeight};
+ghost use Rattle.rows.specs.Bytes.{rowsOf, curveBytes, HoldsCurve};
 ghost use Rattle.rows.specs.Work.{Whole, HandsOver, copiedFrom};
 use crate::Shape;
 use field::Symbol;
@@ -63,7 +64,7 @@ pub fn hand_over(rows: &[u8], shape: Shape, row: usize, weight: usize, curve: &m
 // The largest power of y with a nonzero x-polynomial in a row that is not zero: the slot of the row's last nonzero byte.
 pub fn height(rows: &[u8], shape: Shape, row: usize) -> usize
     requires { ⌜ Whole shape (now rows) × (row ≤ shape .l) ⌝ }
-    ensures { λ j. ⌜ HasHeight (shape .p) (rowsOf shape (now (rows .entry)) row) j ⌝ }
+    ensures { λ j. ⌜ HasHeight (symbols (shape .p) .ring) (rowsOf shape (now (rows .entry)) row) j ⌝ }
 {
     let curve = crate::layout::curve_bytes(shape);
     let size = crate::leading::size_to(rows, row * curve, curve - 1);

@@ -3,10 +3,10 @@ ghost use mathlib.Core.Path.{_≡_};
 ghost use Prim.Native.Nat.{_+_, _-_, _*_, _<_};
 ghost use lib.ListN.{length};
 ghost use Rattle.field.specs.Symbols.{symbols};
-ghost use Rattle.poly.specs.Buffers.{Decided};
-ghost use Rattle.rows.specs.Curves.{Zero};
-ghost use Rattle.rows.specs.Turns.{ratio as ratioOf, update as updateOf};
-ghost use Rattle.rows.specs.Bytes.{rowsOf, Holds, Untouched, rowsBytes};
+ghost use Rattle.poly.specs.Buffers.{Decided, Untouched};
+ghost use Rattle.curves.specs.Curves.{Zero};
+ghost use Rattle.curves.specs.Turns.{ratio as ratioOf, update as updateOf};
+ghost use Rattle.rows.specs.Bytes.{rowsOf, Holds, rowsBytes};
 ghost use Rattle.rows.specs.Work.{Crosses, delayedByte, Slots, SlotVanishes, Exchanges, Exchanged};
 use crate::Shape;
 use field::Symbol;
@@ -68,7 +68,7 @@ fn slot_vanishes(
 }
 
 // What a is more than b, or 0.
-fn excess(a: usize, b: usize) -> usize
+fn beyond(a: usize, b: usize) -> usize
     ensures { λ d. ⌜ d ≡ a - b ⌝ }
 {
     if b < a { a - b } else { 0 }
@@ -80,8 +80,8 @@ pub fn vanishes(rows: &[u8], shape: Shape, r: usize, w: usize, s: usize, v: usiz
     ensures { λ b. ⌜ Decided b (Zero (symbols (shape .p) .ring) (updateOf (symbols (shape .p)) (shape .u) r w s v (rowsOf shape (now (rows .entry))) r)) ⌝ }
 {
     let c = ratio(rows, shape, r, w, s, v);
-    let up = excess(v, w);
-    let down = excess(w, v);
+    let up = beyond(v, w);
+    let down = beyond(w, v);
     let curve = crate::layout::curve_bytes(shape);
     let slot = crate::layout::slot(shape);
     let mut j = 0;

@@ -6,7 +6,7 @@ use native.Mathlib.Omega.{arith}
 use Rattle.text.specs.Lines.{line}
 use Rattle.text.specs.Requests.{Number, FewNumbers, Optional, Line, Meaning, Readable}
 use Rattle.text.specs.Reading.{Free}
-use Rattle.text.proofs.Places.{free-parts}
+use Rattle.text.proofs.Seeking.{free-parts}
 use Rattle.text.proofs.Numbers.{number-same, number-free, numbers-same, numbers-free, optional-same, optional-free}
 
 -- what makes a kind of value fit for a line

@@ -7,17 +7,18 @@ use native.Mathlib.Decide.{decLt}
 use native.Mathlib.Omega.{arith}
 use lib.ListN.{length, set, take, drop, replicate, length-append}
 use lib.Seq.{take-at, set-at, append-snoc}
-use Rattle.text.specs.Requests.{Number, Numbers, FewNumbers, most, padded}
+use Rattle.poly.specs.Limits.{fieldMost}
+use Rattle.text.specs.Requests.{Number, Numbers, FewNumbers, padded}
 use Rattle.text.specs.Requests.Numbers.{one, more}
 use Rattle.text.specs.Reading.{Seeks, HoldsNumbers, ReadsNumbers, part}
-use Rattle.text.proofs.Places.{seek-seam, seek-last}
+use Rattle.text.proofs.Seeking.{seek-seam, seek-last}
 use Rattle.text.proofs.Numbers.{Parted, number-same, numbers-some, numbers-last, numbers-more}
 
 -- the numbers `read` stand before `at`, and in the array
 pub record SoFar (text items : List ℕ) (count at : ℕ) : Type 0 where
   pub read : List ℕ
   pub held : HoldsNumbers read count items
-  pub few : count ≤ most
+  pub few : count ≤ fieldMost
   pub within : at ≤ length text
   pub whole : (ns : List ℕ) → Numbers (drop at text) ns → Numbers text (read ++ ns)
   pub parts : (ns : List ℕ) → Numbers text ns → (ms : List ℕ) × (ns ≡ read ++ ms) × Numbers (drop at text) ms
@@ -32,11 +33,11 @@ none-yet text = record {
   parts = λ ns r. (ns, refl, r);
 }
 
-holds-more : (xs items : List ℕ) (count n : ℕ) → count < most → HoldsNumbers xs count items → HoldsNumbers (xs ++ n ∷ []) (count + 1) (set items count n)
+holds-more : (xs items : List ℕ) (count n : ℕ) → count < fieldMost → HoldsNumbers xs count items → HoldsNumbers (xs ++ n ∷ []) (count + 1) (set items count n)
 holds-more xs items count n h held =
     let long : length (xs ++ n ∷ []) ≡ count + 1 = rw length-append (omega (arith, held .counted)) in
-    let zeros : List ℕ = replicate (most - length (xs ++ n ∷ [])) 0 in
-    let left : most - length xs ≡ suc (most - length (xs ++ n ∷ [])) = omega (arith, held .counted) in
+    let zeros : List ℕ = replicate (fieldMost - length (xs ++ n ∷ [])) 0 in
+    let left : fieldMost - length xs ≡ suc (fieldMost - length (xs ++ n ∷ [])) = omega (arith, held .counted) in
     record {
       counted = sym long;
       padded =
@@ -51,7 +52,7 @@ take-held {xs = xs} {count = count} held = ap (take count) (held .padded) ∙ ta
 lists-not : (text : List ℕ) → ((ns : List ℕ) → FewNumbers text ns → ⊥) → ReadsNumbers text false 0 (padded [])
 lists-not text f = record { meant = record { holds = λ e. absurd (false≢true e); fails = λ _. f }; kept = λ e. absurd (false≢true e) }
 
-pub too-many : {text items : List ℕ} {count at : ℕ} → SoFar text items count at → most ≤ count → ReadsNumbers text false 0 (padded [])
+pub too-many : {text items : List ℕ} {count at : ℕ} → SoFar text items count at → fieldMost ≤ count → ReadsNumbers text false 0 (padded [])
 too-many {text = text} so h = lists-not text (λ ns r. let p = so .parts ns (r .numbers) in
     omega (arith, r .few, so .held .counted, simp length-append at (ap length (p .1)), numbers-some (p .2)))
 
@@ -59,7 +60,7 @@ module _ {text items : List ℕ} {count at to : ℕ} (so : SoFar text items coun
   parted : {ns : List ℕ} → to < length text → Numbers (drop at text) ns → Parted (part at to text) (drop (to + 1) text) ns
   parted h = numbers-more (part at to text) (drop (to + 1) text) (ends .free) (seek-seam ends h)
 
-  pub more-items : (n : ℕ) → count < most → to < length text → Number (part at to text) n → SoFar text (set items count n) (count + 1) (to + 1)
+  pub more-items : (n : ℕ) → count < fieldMost → to < length text → Number (part at to text) n → SoFar text (set items count n) (count + 1) (to + 1)
   more-items n c h r = record {
     read = so .read ++ n ∷ [];
     held = holds-more (so .read) items count n c (so .held);
@@ -72,7 +73,7 @@ module _ {text items : List ℕ} {count at to : ℕ} (so : SoFar text items coun
         (q .others, p .1 ∙ ap (λ (l : List ℕ). so .read ++ l) (q .is ∙ ap (λ (x : ℕ). x ∷ q .others) (number-same (q .head) r)) ∙ sym (append-snoc (so .read) n (q .others)), q .tail);
   }
 
-  pub last-item : (n : ℕ) → count < most → length text ≤ to → Number (part at to text) n → ReadsNumbers text true (count + 1) (set items count n)
+  pub last-item : (n : ℕ) → count < fieldMost → length text ≤ to → Number (part at to text) n → ReadsNumbers text true (count + 1) (set items count n)
   last-item n c h r =
       let held = holds-more (so .read) items count n c (so .held) in
       let listed : FewNumbers text (so .read ++ n ∷ []) =

@@ -1,10 +1,10 @@
-pub mod Places
+pub mod Seeking
 pub mod Numbers
 pub mod Grammar
 pub mod Lengths
-pub mod Spans
+pub mod StandingLines
 pub mod Items
 pub mod Decimals
 pub mod Puts
 pub mod Answers
-pub mod Outcomes
+pub mod Determined

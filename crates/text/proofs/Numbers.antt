@@ -8,7 +8,7 @@ use Rattle.text.specs.Requests.{Number, Numbers, Optional}
 use Rattle.text.specs.Requests.Numbers.{one, more}
 use Rattle.text.specs.Requests.Optional.{nothing, given}
 use Rattle.text.specs.Reading.{Free}
-use Rattle.text.proofs.Places.{free-cons, free-join, free-not, free-parts}
+use Rattle.text.proofs.Seeking.{free-cons, free-join, free-not, free-parts}
 
 -- commas and line feeds come before the digits
 pub number-free : {text : List ℕ} {n : ℕ} (b : ℕ) → b < 48 → Number text n → Free b text

@@ -11,7 +11,7 @@ use Rattle.text.specs.Lines.{bytes, line}
 use Rattle.text.specs.Answers.{decimal, comma, commas, messageLines}
 use Rattle.text.specs.Reading.{part}
 use Rattle.text.specs.Writing.{Put}
-use Rattle.text.proofs.Places.{part-long}
+use Rattle.text.proofs.Seeking.{part-long}
 use Rattle.text.proofs.Decimals.{decimal-low, decimal-high, decimal-short}
 
 pub put-nothing : (before : List ℕ) (at : ℕ) → at ≤ length before → Put before at [] 0 before at

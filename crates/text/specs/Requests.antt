@@ -2,7 +2,7 @@
 --   written text i           the number that the first i bytes write, decimal digits
 --   Number text n            one to three digits, leading zeros allowed, that write n; n is at most 255
 --   Numbers text ns          numbers with commas between them, one at least
---   FewNumbers text ns       the same, at most 31 of them: most
+--   FewNumbers text ns       the same, at most as many as there can be points
 --   Optional other text n    a number, or nothing, which means `other`
 --   Line key Value Rest text   a line of this key with a value of Value, and then a text of Rest
 --   Form                     a line's key, and which values it may have
@@ -18,6 +18,7 @@ use mathlib.Core.Bool.{true, false}
 use mathlib.Core.List.{List, [], _∷_, _++_}
 use Prim.Native.Nat.{ℕ, zero, suc, _+_, _-_, _*_, _≤_, _<_}
 use lib.ListN.{length, getD, replicate}
+use Rattle.poly.specs.Limits.{fieldMost}
 use Rattle.text.specs.Lines.{bytes, line}
 use Rattle.text.specs.declared.Request.{Request}
 
@@ -36,12 +37,9 @@ pub data Numbers : List ℕ → List ℕ → Type 0 where
   one : {text : List ℕ} {n : ℕ} → Number text n → Numbers text (n ∷ [])
   more : {first rest : List ℕ} {n : ℕ} {ns : List ℕ} → Number first n → Numbers rest ns → Numbers (first ++ (bytes "," ++ rest)) (n ∷ ns)
 
-abbrev pub most : ℕ
-most = 31
-
 pub record FewNumbers (text ns : List ℕ) : Type 0 where
   pub numbers : Numbers text ns
-  pub few : length ns ≤ most
+  pub few : length ns ≤ fieldMost
 
 pub data Optional (other : ℕ) : List ℕ → ℕ → Type 0 where
   nothing : Optional other [] other
@@ -86,7 +84,7 @@ abbrev pub Readable : List ℕ → Meaning → Type 0
 Readable text r = Lines (lines r) text
 
 abbrev pub padded : List ℕ → List ℕ
-padded ns = ns ++ replicate (most - length ns) 0
+padded ns = ns ++ replicate (fieldMost - length ns) 0
 
 abbrev pub stored : Meaning → Request
 stored r = record {

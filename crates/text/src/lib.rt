@@ -2,12 +2,10 @@
 ghost use mathlib.Core.Path.{_≡_};
 ghost use Rattle.text.specs.Requests.{HasRead, unread};
 ghost use Rattle.text.specs.Answers.{reply, HasWritten};
+use poly::limits::FIELD_MOST;
 
 mod reading; // reading.rt: keys, numbers and lines in a text
 mod writing; // writing.rt: numbers and lines put into a buffer
-
-// The greatest count of numbers in a line.
-pub const MOST: usize = 31;
 
 pub struct Request {
     pub ok: bool,
@@ -17,9 +15,9 @@ pub struct Request {
     pub l: u8,
     pub t: u8,
     pub n: u8,
-    pub points: [u8; MOST],
+    pub points: [u8; FIELD_MOST],
     pub count: u8,
-    pub word: [u8; MOST],
+    pub word: [u8; FIELD_MOST],
 }
 
 // What is handed back for a text that cannot be read.
@@ -34,9 +32,9 @@ fn unread() -> Request
         l: 0,
         t: 0,
         n: 0,
-        points: [0u8; MOST],
+        points: [0u8; FIELD_MOST],
         count: 0,
-        word: [0u8; MOST],
+        word: [0u8; FIELD_MOST],
     }
 }
 

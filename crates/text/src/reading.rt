@@ -1,5 +1,5 @@
 // Keys, numbers and lines in a text. What is not there, or cannot be read, has `ok` false.
-use super::MOST;
+use poly::limits::FIELD_MOST;
 ghost use Prim.Native.Nat.{_≤_};
 ghost use lib.ListN.{length};
 ghost use Rattle.text.specs.Requests.{Number, Optional};
@@ -20,7 +20,7 @@ pub struct Value {
 pub struct Values {
     pub ok: bool,
     pub count: u8,
-    pub items: [u8; MOST],
+    pub items: [u8; FIELD_MOST],
 }
 
 // What a line says, and the place after it.
@@ -33,7 +33,7 @@ pub struct Line {
 pub struct ListLine {
     pub ok: bool,
     pub count: u8,
-    pub items: [u8; MOST],
+    pub items: [u8; FIELD_MOST],
     pub next: usize,
 }
 
@@ -45,7 +45,7 @@ const NO_VALUE: Value = Value {
 const NO_VALUES: Values = Values {
     ok: false,
     count: 0,
-    items: [0u8; MOST],
+    items: [0u8; FIELD_MOST],
 };
 
 const NO_LINE: Line = Line {
@@ -144,14 +144,14 @@ fn optional(text: &[u8], other: u8) -> Value
     number(text)
 }
 
-// Numbers with commas between them, at most MOST.
+// Numbers with commas between them, at most as many as there can be points.
 fn numbers(text: &[u8]) -> Values
     ensures { λ r. ⌜ ReadsNumbers (now (text .entry)) (r .ok) (r .count) (r .items) ⌝ }
 {
-    let mut items = [0u8; MOST];
+    let mut items = [0u8; FIELD_MOST];
     let mut count: usize = 0;
     let mut at: usize = 0;
-    while count < MOST {
+    while count < FIELD_MOST {
         let to = seek(text, at, b',');
         let first = number(&text[at..to]);
         if !first.ok {
@@ -218,7 +218,7 @@ pub fn numbers_line(text: &[u8], at: usize, key: &[u8]) -> ListLine
         return ListLine {
             ok: false,
             count: 0,
-            items: [0u8; MOST],
+            items: [0u8; FIELD_MOST],
             next: 0,
         };
     }

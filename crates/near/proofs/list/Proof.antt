@@ -5,11 +5,12 @@ use native.Mathlib.Nat.{mul-le-mul}
 use native.Mathlib.Omega.{arith}
 use lib.ListN.{length}
 use borrow.Author.Needs.{needs}
+use Rattle.poly.specs.Limits.{curveMost}
 use Rattle.poly.specs.Table.{First}
 use Rattle.rows.specs.Bytes.{shape, curveBytes}
 use Rattle.rows.proofs.Notes.{good-fine}
 use Rattle.rows.proofs.Accepted.{accepted-note}
-use Rattle.rows.proofs.Places.{curve-small}
+use Rattle.rows.proofs.Placing.{curve-small}
 use Rattle.near.specs.Job.{listTable}
 use Rattle.near.proofs.Listing.{Taken, list-taken, search-runs, search-lists, list-refuses, list-unvouched, list-answers}
 use Rattle.near.proofs.list.Statement.{statement}
@@ -25,7 +26,7 @@ first c = rw (c .if1 .left) at (c .before .refuse-list .ensures)
 taken : (c : tie.Else1) → let a = start c .args in Taken (a .p) (a .points .now) (a .word .now) (a .k) (a .m) (a .l) (a .t) (a .room .now) (a .messages .now)
 taken c = let a = start c .args in list-taken (a .p) (a .points .now) (a .word .now) (a .k) (a .m) (a .l) (a .t) (a .room .now) (a .messages .now) (first c)
 
-fits : (c : tie.Else1) → let a = start c .args in curveBytes (shape (a .p) (length (a .points .now)) (a .k) (a .m) (a .l)) ≤ 2169
+fits : (c : tie.Else1) → let a = start c .args in curveBytes (shape (a .p) (length (a .points .now)) (a .k) (a .m) (a .l)) ≤ curveMost
 fits c = curve-small (good-fine (accepted-note (taken c .accepted)))
 
 refuse-list-requires : tie.Need-refuse-list-requires

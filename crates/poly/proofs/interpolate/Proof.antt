@@ -21,17 +21,17 @@ array-write-work c = search needs
 loop-holds : tie.Need-loop-holds Inv-loop μ-loop
 loop-holds c = (omega arith, interpolated-none (c .before .before .pre .size))
 
-shared-slice-read-excess : tie.Need-shared-slice-read-excess Inv-loop μ-loop
-shared-slice-read-excess c = search needs
+shared-slice-read-correction : tie.Need-shared-slice-read-correction Inv-loop μ-loop
+shared-slice-read-correction c = search needs
 
-slice-aggregate-excess : tie.Need-slice-aggregate-excess Inv-loop μ-loop
-slice-aggregate-excess c = search needs
+slice-aggregate-correction : tie.Need-slice-aggregate-correction Inv-loop μ-loop
+slice-aggregate-correction c = search needs
 
-shared-slice-read-excess-2 : tie.Need-shared-slice-read-excess-2 Inv-loop μ-loop
-shared-slice-read-excess-2 c = search needs
+shared-slice-read-correction-2 : tie.Need-shared-slice-read-correction-2 Inv-loop μ-loop
+shared-slice-read-correction-2 c = search needs
 
-excess-requires : tie.Need-excess-requires Inv-loop μ-loop
-excess-requires c κs =
+correction-requires : tie.Need-correction-requires Inv-loop μ-loop
+correction-requires c κs =
     let l = c .before .before .before .before in
     next-halves (l .before .before .before .pre) (l .loop .inv .1) (c .before .before .before .loop-test .taken)
 
@@ -42,7 +42,7 @@ subtract-requires : tie.Need-subtract-requires Inv-loop μ-loop
 subtract-requires c κs =
     let i = c .before .before .before .before .before in
     let l = i .before in
-    rw (c .before .excess .ensures) (next-subtracts (l .before .before .before .pre) (l .loop .inv .1) (i .loop-test .taken))
+    rw (c .before .correction .ensures) (next-subtracts (l .before .before .before .pre) (l .loop .inv .1) (i .loop-test .taken))
 
 negative-requires : tie.Need-negative-requires Inv-loop μ-loop
 negative-requires c κs =
@@ -61,7 +61,7 @@ multiply-requires c κs =
     let u = c .before .before .before .before in
     let i = u .before .before .before .before .before .before in
     let l = i .before in
-    rw (c .before .before .negative .ensures, u .subtract .ensures, u .before .before .excess .ensures)
+    rw (c .before .before .negative .ensures, u .subtract .ensures, u .before .before .correction .ensures)
     (next-factors (l .before .before .before .pre) (l .loop .inv .1) (i .loop-test .taken))
 
 add-s : tie.Need-add-s Inv-loop μ-loop
@@ -81,7 +81,7 @@ loop-again c =
     let l = i .before in (
       omega (arith, i .loop-test .taken),
       interpolated-next (l .before .before .before .pre) (l .loop .inv .1) (i .loop-test .taken)
-          (rw (m .before .before .before .negative .ensures, u .subtract .ensures, u .before .before .excess .ensures) at (m .multiply .ensures)),
+          (rw (m .before .before .before .negative .ensures, u .subtract .ensures, u .before .before .correction .ensures) at (m .multiply .ensures)),
     )
 
 returns : tie.Need-returns Inv-loop μ-loop
@@ -98,10 +98,10 @@ interpolate-spec =
     μ-loop
     array-write-work
     loop-holds
-    shared-slice-read-excess
-    slice-aggregate-excess
-    shared-slice-read-excess-2
-    excess-requires
+    shared-slice-read-correction
+    slice-aggregate-correction
+    shared-slice-read-correction-2
+    correction-requires
     slice-aggregate-subtract
     subtract-requires
     negative-requires

@@ -2,7 +2,7 @@
 use mathlib.Core.Path.{sym}
 use lib.Seq.{length-take-le}
 use borrow.Author.Tests.{not-true, not-false}
-use Rattle.text.proofs.Outcomes.{write-within}
+use Rattle.text.proofs.Determined.{write-within}
 use Rattle.program.proofs.Answers.{read-inside, unread-answer, listed-answer}
 use borrow.Author.Needs.{needs}
 use Rattle.program.proofs.answer.Statement.{statement}

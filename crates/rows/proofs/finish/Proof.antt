@@ -4,12 +4,13 @@ use Prim.Native.Nat.{_≤_}
 use native.Mathlib.Omega.{arith}
 use lib.ListN.{length}
 use borrow.Author.Needs.{needs}
-use Rattle.rows.specs.Bytes.{curveBytes, rowsOf, Untouched}
+use Rattle.poly.specs.Buffers.{Untouched}
+use Rattle.curves.proofs.Leads.{lead-light}
+use Rattle.rows.specs.Bytes.{curveBytes, rowsOf}
 use Rattle.rows.specs.Jobs.{Hands}
 use Rattle.rows.specs.Work.{Whole}
 use Rattle.rows.specs.declared.Shape.{Shape}
-use Rattle.rows.proofs.Leads.{lead-light}
-use Rattle.rows.proofs.Handing.{height-inside}
+use Rattle.rows.proofs.lightest.HandedCurve.{height-inside}
 use Rattle.rows.proofs.Finishing.{Finishes, finishes}
 use Rattle.rows.proofs.finish.Statement.{statement}
 use Rattle.rows.proofs.finish.Tie as tie

@@ -6,13 +6,13 @@ use native.Mathlib.Numerals.{add-one}
 use native.Mathlib.Omega.{arith}
 use borrow.Author.Needs.{needs}
 use Rattle.field.specs.Symbols.{symbols}
-use Rattle.rows.specs.Curves.{Lead}
+use Rattle.curves.specs.Curves.{Lead}
 use Rattle.rows.specs.Bytes.{rowsOf}
 use Rattle.rows.specs.Jobs.{shapeOf}
 use Rattle.rows.specs.Work.{Crosses}
 use Rattle.rows.specs.declared.Shape.{Shape}
 use Rattle.rows.proofs.Notes.{good-note}
-use Rattle.rows.proofs.Places.{light-row}
+use Rattle.rows.proofs.Placing.{light-row}
 use Rattle.rows.proofs.Going.{Going, going-begins, going-lead, going-rises, going-below, going-crosses, going-updates, ends-finished, ends-paused, ends-halted}
 use Rattle.rows.proofs.go.Statement.{statement}
 use Rattle.rows.proofs.go.Tie as tie

@@ -13,7 +13,7 @@ use Rattle.text.specs.Requests.{Number, Optional, FewNumbers, Line, Line
 use Rattle.text.specs.Requests.HasRead.{readable, unreadable}
 use Rattle.text.specs.Reading.{Taken}
 use Rattle.text.proofs.Grammar.{number-plain, optional-plain, listed-plain, line-map}
-use Rattle.text.proofs.Spans.{passes, refuses, goes-on}
+use Rattle.text.proofs.StandingLines.{passes, refuses, goes-on}
 use Rattle.text.proofs.read.Statement.{statement}
 use Rattle.text.proofs.read.Tie as tie
 

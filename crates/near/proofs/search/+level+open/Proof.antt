@@ -8,9 +8,10 @@ use lib.ListN.{length, length-set}
 use Rattle.field.specs.Symbols.{symbols}
 use Rattle.near.specs.Search.{lowest}
 use Rattle.near.specs.Work.{curveOf}
-use Rattle.near.proofs.Levels.{Going, going-none, going-searches, going-messages, going-all, fitting, failing, opens, grown, passed, spelt-last, front-kept, with-last, with-next, next-searches, back-tries, back-leaves}
+use Rattle.near.proofs.search.Levels.{Going, going-none, going-searches, going-messages, going-all, fitting, failing, opens, grown, passed, spelt-last, front-kept, with-last, with-next, next-searches, back-tries, back-leaves}
 use borrow.Fn.Kinds.{In, Out}
 use borrow.Fn.PlainCycle.{Measures, is, falls, and}
+use Rattle.near.proofs.search.+level+open.{statement}
 use Rattle.near.proofs.search.level.Reads as level
 use Rattle.near.proofs.search.level.Kinds as level-kinds
 use Rattle.near.proofs.search.+level+open.Lts-level as level-lts
@@ -22,7 +23,6 @@ use Rattle.near.proofs.search.fits.Reads as fits-reads
 use Rattle.near.proofs.search.keep.Reads as keep-reads
 use Rattle.near.proofs.search.lowest.Reads as lowest-reads
 use Rattle.near.proofs.search.shift.Reads as shift-reads
-use Rattle.near.proofs.search.+level+open.{statement}
 use Rattle.near.proofs.search.+level+open.Tie.{close}
 
 abbrev μ-level : Measures 5 level-kinds.ps ℕ

@@ -7,21 +7,21 @@ use native.Mathlib.Omega.{arith}
 use lib.ListN.{length}
 use borrow.Author.Needs.{needs}
 use Rattle.near.specs.Lists.{polynomial, agreements as agreementsOf}
-use Rattle.near.specs.Work.{jobOf}
+use Rattle.near.specs.Work.{taskFor}
 use Rattle.near.proofs.Agreements.{agreements-zero}
-use Rattle.near.proofs.Keeping.{place-asks, agrees, differs}
+use Rattle.near.proofs.search.Keeping.{place-asks, agrees, differs}
 use Rattle.near.proofs.search.agreements.Statement.{statement}
 use Rattle.near.proofs.search.agreements.Tie as tie
 
 abbrev Inv-loop : tie.InvT-loop
 Inv-loop message points word plan count₀ s₀ count s =
-    (s ≤ length points) × (count ≤ s) × (count ≡ agreementsOf (jobOf plan points word) s (polynomial (jobOf plan points word) message))
+    (s ≤ length points) × (count ≤ s) × (count ≡ agreementsOf (taskFor plan points word) s (polynomial (taskFor plan points word) message))
 
 abbrev μ-loop : tie.MeasureT-loop
 μ-loop message points word plan count₀ s₀ count s = length points - s
 
 loop-holds : tie.Need-loop-holds Inv-loop μ-loop
-loop-holds c = let s = c .before .before .before .args in (search needs, search needs, sym (agreements-zero (jobOf (s .plan) (s .points .now) (s .word .now)) _))
+loop-holds c = let s = c .before .before .before .args in (search needs, search needs, sym (agreements-zero (taskFor (s .plan) (s .points .now) (s .word .now)) _))
 
 shared-slice-read-value-at : tie.Need-shared-slice-read-value-at Inv-loop μ-loop
 shared-slice-read-value-at c = search needs

@@ -1,7 +1,7 @@
 -- `keep` meets its contract: it writes the message exactly where `kept` lists it. Assumes nothing.
 use native.Mathlib.Omega.{arith}
 use borrow.Author.Needs.{needs}
-use Rattle.near.proofs.Keeping.{kept-none, kept-one, wrote-none, room-one, count-one, wrote-one}
+use Rattle.near.proofs.search.Keeping.{kept-none, kept-one, wrote-none, room-one, count-one, wrote-one}
 use Rattle.near.proofs.search.keep.Statement.{statement}
 use Rattle.near.proofs.search.keep.Tie as tie
 

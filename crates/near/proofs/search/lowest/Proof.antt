@@ -8,7 +8,7 @@ use borrow.Author.Needs.{needs}
 use Rattle.field.specs.Symbols.{symbols}
 use Rattle.near.specs.Search.{some?}
 use Rattle.near.specs.Work.{sliceOf}
-use Rattle.near.proofs.Tests.{least-at}
+use Rattle.near.proofs.search.LowestPower.{least-at}
 use Rattle.near.proofs.search.lowest.Statement.{statement}
 use Rattle.near.proofs.search.lowest.Tie as tie
 

@@ -4,7 +4,7 @@ use Prim.Native.Nat.{_-_, _≤_}
 use native.Mathlib.Numerals.{add-one}
 use borrow.Author.Needs.{needs}
 use Rattle.near.specs.Work.{Lifted}
-use Rattle.near.proofs.Shifting.{raised-none, raised-more}
+use Rattle.near.proofs.search.Shifting.{raised-none, raised-more}
 use Rattle.near.proofs.search.raise.Statement.{statement}
 use Rattle.near.proofs.search.raise.Tie as tie
 

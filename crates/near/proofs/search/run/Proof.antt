@@ -1,7 +1,7 @@
 -- `run` meets its contract: the search begins at the first symbol, with nothing found. Assumes nothing.
 use native.Mathlib.Omega.{arith}
 use borrow.Author.Needs.{needs}
-use Rattle.near.proofs.Levels.{first-searches, first-room, few, ran}
+use Rattle.near.proofs.search.Levels.{first-searches, first-room, few, ran}
 use Rattle.near.proofs.search.run.Statement.{statement}
 use Rattle.near.proofs.search.run.Tie as tie
 

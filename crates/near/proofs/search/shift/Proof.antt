@@ -1,7 +1,7 @@
 -- `shift` meets its contract: the passes down to j are made. Assumes nothing.
 use mathlib.Core.Path.{_≡_}
 use borrow.Author.Needs.{needs}
-use Rattle.near.proofs.Shifting.{Shifting, shifting-none, shifting-more, shifted}
+use Rattle.near.proofs.search.Shifting.{Shifting, shifting-none, shifting-more, shifted}
 use Rattle.near.proofs.search.shift.Statement.{statement}
 use Rattle.near.proofs.search.shift.Tie as tie
 

@@ -7,7 +7,7 @@ use borrow.Author.Needs.{needs}
 use Rattle.field.specs.Symbols.{symbol, symbols}
 use Rattle.field.proofs.SymbolLaws.{byte-zero, zero-is}
 use Rattle.near.specs.Work.{sliceOf}
-use Rattle.near.proofs.Tests.{some-none, some-one}
+use Rattle.near.proofs.search.LowestPower.{some-none, some-one}
 use Rattle.near.proofs.search.stands.Statement.{statement}
 use Rattle.near.proofs.search.stands.Tie as tie
 

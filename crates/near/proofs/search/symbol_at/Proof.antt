@@ -3,7 +3,7 @@ use mathlib.Core.Path.{sym}
 use native.Mathlib.Numerals.{add-one}
 use native.Mathlib.Omega.{arith}
 use borrow.Author.Needs.{needs}
-use Rattle.near.proofs.Laying.{byte-inside, slice-low, slice-wide, slice-byte, lift-small}
+use Rattle.near.proofs.search.Laying.{byte-inside, slice-low, slice-wide, slice-byte, lift-small}
 use Rattle.near.proofs.search.symbol_at.Statement.{statement}
 use Rattle.near.proofs.search.symbol_at.Tie as tie
 

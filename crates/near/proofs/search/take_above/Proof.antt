@@ -2,7 +2,7 @@
 use native.Mathlib.Numerals.{add-one}
 use native.Mathlib.Omega.{arith}
 use borrow.Author.Needs.{needs}
-use Rattle.near.proofs.Shifting.{lift-inside, above, take-small, subtracts, taken}
+use Rattle.near.proofs.search.Shifting.{lift-inside, above, take-small, subtracts, taken}
 use Rattle.near.proofs.search.take_above.Statement.{statement}
 use Rattle.near.proofs.search.take_above.Tie as tie
 

@@ -4,7 +4,7 @@ use Prim.Native.Nat.{_-_, _≤_}
 use lib.ListN.{length, length-set}
 use borrow.Author.Needs.{needs}
 use Rattle.rows.specs.Filling.{cleared}
-use Rattle.rows.proofs.Regions.{cleared-none, cleared-more}
+use Rattle.rows.proofs.fill.Copies.{cleared-none, cleared-more}
 use Rattle.rows.proofs.fill.clear.Statement.{statement}
 use Rattle.rows.proofs.fill.clear.Tie as tie
 

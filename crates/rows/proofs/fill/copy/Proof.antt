@@ -4,7 +4,7 @@ use Prim.Native.Nat.{_-_, _≤_}
 use lib.ListN.{length, length-set}
 use borrow.Author.Needs.{needs}
 use Rattle.rows.specs.Filling.{copied}
-use Rattle.rows.proofs.Regions.{copied-none, copied-more}
+use Rattle.rows.proofs.fill.Copies.{copied-none, copied-more}
 use Rattle.rows.proofs.fill.copy.Statement.{statement}
 use Rattle.rows.proofs.fill.copy.Tie as tie
 

@@ -7,11 +7,10 @@ use native.Mathlib.Omega.{arith}
 use lib.ListN.{length, take, drop}
 use lib.Seq.{length-take-le}
 use borrow.Author.Needs.{needs}
-use Rattle.poly.proofs.BufferLaws.{take-rest}
+use Rattle.poly.proofs.BufferLaws.{take-rest, untouched-then}
 use Rattle.rows.specs.Bytes.{rowsBytes}
 use Rattle.rows.specs.Filling.{RaisesRow}
-use Rattle.rows.proofs.Regions.{untouched-then}
-use Rattle.rows.proofs.FilledRows.{RowsFilled, toFill, filled-none, filled-begins, filled-bare, filled-low, filled-high, filled-all, h-below, e-below}
+use Rattle.rows.proofs.fill.FilledRows.{RowsFilled, toFill, filled-none, filled-begins, filled-bare, filled-low, filled-high, filled-all, h-below, e-below}
 use Rattle.rows.proofs.fill.fill.Statement.{statement}
 use Rattle.rows.proofs.fill.fill.Tie as tie
 use Rattle.rows.proofs.fill.fill.Reads as reads

@@ -4,7 +4,7 @@ use Prim.Native.Nat.{_-_, _*_, _≤_}
 use native.Mathlib.Omega.{arith}
 use borrow.Author.Needs.{needs}
 use Rattle.rows.specs.Bytes.{slot as slotOf, curveBytes}
-use Rattle.rows.proofs.LowRows.{slot-fits, LowFilled, row-inside, one-factors, low-one, low-begins, low-factors, low-more, low-all}
+use Rattle.rows.proofs.fill.LowRows.{slot-fits, LowFilled, row-inside, one-factors, low-one, low-begins, low-factors, low-more, low-all}
 use Rattle.rows.proofs.fill.fill_low.Statement.{statement}
 use Rattle.rows.proofs.fill.fill_low.Tie as tie
 

@@ -5,8 +5,8 @@ use native.Mathlib.Omega.{arith}
 use borrow.Author.Needs.{needs}
 use Rattle.rows.specs.Bytes.{slot as slotOf, curveBytes}
 use Rattle.rows.specs.Filling.{copied}
-use Rattle.rows.proofs.LowRows.{slot-fits}
-use Rattle.rows.proofs.FilledRows.{copy-ends, copy-before, row-copies}
+use Rattle.rows.proofs.fill.LowRows.{slot-fits}
+use Rattle.rows.proofs.fill.FilledRows.{copy-ends, copy-before, row-copies}
 use Rattle.rows.proofs.fill.raise_row.Statement.{statement}
 use Rattle.rows.proofs.fill.raise_row.Tie as tie
 

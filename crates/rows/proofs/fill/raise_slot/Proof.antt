@@ -6,7 +6,7 @@ use native.Mathlib.Omega.{arith}
 use borrow.Author.Needs.{needs}
 use Rattle.poly.specs.Buffers.{Factors}
 use Rattle.poly.proofs.BufferLaws.{factors-part, region-part}
-use Rattle.rows.proofs.Slots.{Negated, slot-scales, slot-negated, slot-subtracts, raised-lowest, raised-above}
+use Rattle.rows.proofs.fill.Slots.{Negated, slot-scales, slot-negated, slot-subtracts, raised-lowest, raised-above}
 use Rattle.rows.proofs.fill.raise_slot.Statement.{statement}
 use Rattle.rows.proofs.fill.raise_slot.Tie as tie
 

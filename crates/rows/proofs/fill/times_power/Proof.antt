@@ -3,7 +3,7 @@ use mathlib.Core.Path.{_≡_}
 use Prim.Native.Nat.{_-_, _≤_}
 use borrow.Author.Needs.{needs}
 use Rattle.rows.specs.Filling.{Power}
-use Rattle.rows.proofs.Slots.{power-none, power-more, power-factors}
+use Rattle.rows.proofs.fill.Slots.{power-none, power-more, power-factors}
 use Rattle.rows.proofs.fill.times_power.Statement.{statement}
 use Rattle.rows.proofs.fill.times_power.Tie as tie
 

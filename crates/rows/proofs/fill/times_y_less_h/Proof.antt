@@ -2,7 +2,7 @@
 use mathlib.Core.Path.{_≡_}
 use Prim.Native.Nat.{_≤_}
 use borrow.Author.Needs.{needs}
-use Rattle.rows.proofs.Slots.{Raising, raising-none, raising-factors, raising-more, raising-all}
+use Rattle.rows.proofs.fill.Slots.{Raising, raising-none, raising-factors, raising-more, raising-all}
 use Rattle.rows.proofs.fill.times_y_less_h.Statement.{statement}
 use Rattle.rows.proofs.fill.times_y_less_h.Tie as tie
 

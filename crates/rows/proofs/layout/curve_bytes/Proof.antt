@@ -2,7 +2,7 @@
 use native.Mathlib.Numerals.{add-one}
 use native.Mathlib.Omega.{arith}
 use borrow.Author.Needs.{needs}
-use Rattle.rows.proofs.Places.{curve-small}
+use Rattle.rows.proofs.Placing.{curve-small}
 use Rattle.rows.proofs.layout.curve_bytes.Statement.{statement}
 use Rattle.rows.proofs.layout.curve_bytes.Tie as tie
 

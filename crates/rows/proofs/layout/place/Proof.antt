@@ -2,8 +2,9 @@
 use mathlib.Core.Path.{_≡_, ap₂}
 use Prim.Native.Nat.{ℕ, _+_, _*_, _<_}
 use native.Mathlib.Omega.{arith}
+use Rattle.poly.specs.Limits.{rowsMost}
 use Rattle.rows.specs.Bytes.{place as placeOf}
-use Rattle.rows.proofs.Places.{row-end, place-inside, rows-small}
+use Rattle.rows.proofs.Placing.{row-end, place-inside, rows-small}
 use Rattle.rows.proofs.layout.place.Statement.{statement}
 use Rattle.rows.proofs.layout.place.Tie as tie
 
@@ -14,7 +15,7 @@ module _ (c : tie.After-slot) where
   at : s .args .i * c .before .curve-bytes .result + s .args .j * c .slot .result + s .args .e ≡ placeOf (s .args .shape) (s .args .i) (s .args .j) (s .args .e)
   at = ap₂ (λ (x y : ℕ). s .args .i * x + s .args .j * y + s .args .e) (c .before .curve-bytes .ensures) (c .slot .ensures)
 
-  small : s .args .i * c .before .curve-bytes .result + s .args .j * c .slot .result + s .args .e < 19521
+  small : s .args .i * c .before .curve-bytes .result + s .args .j * c .slot .result + s .args .e < rowsMost
   small = let p = s .pre in rw at (omega (arith, place-inside (s .args .shape) (p .row) (p .power) (p .degree), rows-small (p .fine)))
 
 curve-bytes-requires : tie.Need-curve-bytes-requires

@@ -2,7 +2,7 @@
 use native.Mathlib.Numerals.{add-one}
 use native.Mathlib.Omega.{arith}
 use borrow.Author.Needs.{needs}
-use Rattle.rows.proofs.Places.{rows-small}
+use Rattle.rows.proofs.Placing.{rows-small}
 use Rattle.rows.proofs.layout.rows_bytes.Statement.{statement}
 use Rattle.rows.proofs.layout.rows_bytes.Tie as tie
 

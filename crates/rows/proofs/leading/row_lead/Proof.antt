@@ -9,8 +9,8 @@ use Rattle.field.specs.Symbols.{symbols}
 use Rattle.rows.specs.Bytes.{slot as slotOf, curveBytes, rowsBytes, rowsOf}
 use Rattle.rows.specs.Work.{SizeTo}
 use Rattle.rows.specs.declared.Shape.{Shape}
-use Rattle.rows.proofs.Places.{row-end, place-inside, rows-small, lift-inside, rowsOf-boxed}
-use Rattle.rows.proofs.Finding.{FoundFrom, found-all, found-more, slot-above, slot-last}
+use Rattle.rows.proofs.Placing.{row-end, place-inside, rows-small, lift-inside, rowsOf-boxed}
+use Rattle.rows.proofs.leading.Finding.{FoundFrom, found-all, found-more, slot-above, slot-last}
 use Rattle.rows.proofs.leading.row_lead.Statement.{statement}
 use Rattle.rows.proofs.leading.row_lead.Tie as tie
 

@@ -6,7 +6,7 @@ use native.Mathlib.Omega.{arith}
 use lib.ListN.{length, length-set}
 use borrow.Author.Needs.{needs}
 use Rattle.rows.specs.Work.{copiedFrom}
-use Rattle.rows.proofs.Handing.{copied-from-none, copied-from-more}
+use Rattle.rows.proofs.lightest.HandedCurve.{copied-from-none, copied-from-more}
 use Rattle.rows.proofs.lightest.copy_from.Statement.{statement}
 use Rattle.rows.proofs.lightest.copy_from.Tie as tie
 

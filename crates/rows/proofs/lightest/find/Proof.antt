@@ -6,14 +6,14 @@ use Prim.Native.Nat.{ℕ, suc, _-_, _≤_}
 use native.Mathlib.Omega.{arith}
 use borrow.Author.Needs.{needs}
 use Rattle.field.specs.Symbols.{symbols}
-use Rattle.rows.specs.Curves.{Lead}
-use Rattle.rows.specs.Finish.{Lightest}
+use Rattle.curves.specs.Curves.{Lead}
+use Rattle.curves.specs.Finish.{Lightest}
+use Rattle.curves.proofs.Least.{lightest-one, lightest-new, lightest-stays}
 use Rattle.rows.specs.Bytes.{rowsOf}
 use Rattle.rows.specs.Work.{Whole, LightRow}
 use Rattle.rows.specs.declared.Shape.{Shape}
-use Rattle.rows.proofs.Places.{light-row}
-use Rattle.rows.proofs.Least.{lightest-one, lightest-new, lightest-stays}
-use Rattle.rows.proofs.Finding.{found-own}
+use Rattle.rows.proofs.Placing.{light-row}
+use Rattle.rows.proofs.leading.Finding.{found-own}
 use Rattle.rows.proofs.lightest.find.Statement.{statement}
 use Rattle.rows.proofs.lightest.find.Tie as tie
 

@@ -4,7 +4,8 @@ use native.Mathlib.Omega.{arith}
 use lib.ListN.{length, getD}
 use borrow.Author.Needs.{needs}
 use Rattle.field.proofs.OperationLaws.{invByte-below}
-use Rattle.rows.proofs.Handing.{row-within, lead-inside, lead-below, hand-region, handed}
+use Rattle.poly.specs.Limits.{rowsMost}
+use Rattle.rows.proofs.lightest.HandedCurve.{row-within, lead-inside, lead-below, hand-region, handed}
 use Rattle.rows.proofs.lightest.hand_over.Statement.{statement}
 use Rattle.rows.proofs.lightest.hand_over.Tie as tie
 
@@ -16,7 +17,7 @@ module _ (c : tie.After-curve-bytes) where
   abbrev len : ℕ
   len = c .curve-bytes .result
 
-  within : (s .args .row * len + len ≤ length (s .args .rows .now)) × (s .args .row * len + len ≤ 19521)
+  within : (s .args .row * len + len ≤ length (s .args .rows .now)) × (s .args .row * len + len ≤ rowsMost)
   within = row-within (s .pre .bytes) (s .pre .inside) (c .curve-bytes .ensures)
 
 -- and so does its leading coefficient

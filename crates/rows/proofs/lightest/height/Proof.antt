@@ -3,10 +3,11 @@ use Prim.Native.Nat.{ℕ, _+_, _-_, _*_, _≤_, _<_}
 use native.Mathlib.Omega.{arith}
 use lib.ListN.{length}
 use borrow.Author.Needs.{needs}
+use Rattle.poly.specs.Limits.{rowsMost}
 use Rattle.rows.specs.Bytes.{curveBytes}
 use Rattle.rows.specs.Work.{SizeTo}
-use Rattle.rows.proofs.Places.{slot-inside}
-use Rattle.rows.proofs.Handing.{row-within, row-some, row-height}
+use Rattle.rows.proofs.Placing.{slot-inside}
+use Rattle.rows.proofs.lightest.HandedCurve.{row-within, row-some, row-height}
 use Rattle.rows.proofs.lightest.height.Statement.{statement}
 use Rattle.rows.proofs.lightest.height.Tie as tie
 
@@ -18,7 +19,7 @@ module _ (c : tie.After-curve-bytes) where
   abbrev len : ℕ
   len = c .curve-bytes .result
 
-  within : (s .args .row * len + len ≤ length (s .args .rows .now)) × (s .args .row * len + len ≤ 19521)
+  within : (s .args .row * len + len ≤ length (s .args .rows .now)) × (s .args .row * len + len ≤ rowsMost)
   within = row-within (s .pre .0 .bytes) (s .pre .1) (c .curve-bytes .ensures)
 
   some : 0 < len

@@ -11,8 +11,8 @@ use Rattle.poly.proofs.TableLaws.{decided-true, decided-false}
 use Rattle.rows.specs.Bytes.{slot as slotOf, curveBytes, rowsBytes, place}
 use Rattle.rows.specs.Work.{ZeroBetween}
 use Rattle.rows.specs.declared.Shape.{Shape}
-use Rattle.rows.proofs.Places.{slot-end, row-end, rows-small, lift-inside}
-use Rattle.rows.proofs.Soundness.{slot-light, light-slot}
+use Rattle.rows.proofs.Placing.{slot-end, row-end, rows-small, lift-inside}
+use Rattle.rows.proofs.sound.Soundness.{slot-light, light-slot}
 use Rattle.rows.proofs.sound.row_light.Statement.{statement}
 use Rattle.rows.proofs.sound.row_light.Tie as tie
 

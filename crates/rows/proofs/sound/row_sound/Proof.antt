@@ -7,15 +7,16 @@ use native.Mathlib.Omega.{arith}
 use borrow.Author.Needs.{needs}
 use borrow.Author.Tests.{not-true, not-false}
 use Rattle.field.specs.Symbols.{symbols}
+use Rattle.poly.specs.Limits.{heightMost, widthMost}
 use Rattle.poly.specs.Buffers.{Decided}
 use Rattle.poly.proofs.TableLaws.{decided-true, decided-false}
-use Rattle.rows.specs.Curves.{Height, Lead, LeadsAt}
+use Rattle.curves.specs.Curves.{Height, Lead, LeadsAt}
+use Rattle.curves.proofs.Leads.{lead-nonzero, lead-unique}
 use Rattle.rows.specs.Bytes.{slot as slotOf, curveBytes, rowsBytes, rowsOf}
 use Rattle.rows.specs.Work.{LightRow, ZeroBetween, SoundRow}
 use Rattle.rows.specs.declared.Shape.{Shape}
-use Rattle.rows.proofs.Leads.{lead-nonzero, lead-unique}
-use Rattle.rows.proofs.Places.{row-end, rows-small, light-row, light-curve}
-use Rattle.rows.proofs.Soundness.{height-zero, zero-height}
+use Rattle.rows.proofs.Placing.{row-end, rows-small, light-row, light-curve}
+use Rattle.rows.proofs.sound.Soundness.{height-zero, zero-height}
 use Rattle.rows.proofs.sound.row_sound.Statement.{statement}
 use Rattle.rows.proofs.sound.row_sound.Tie as tie
 
@@ -42,10 +43,10 @@ module _ (c : tie.After-slot) where
   above-is : above ≡ top * slotOf S
   above-is = ap₂ _*_ (add-one _ ∙ ap suc (c .before .tallest .ensures)) (c .slot .ensures)
 
-  above-small : above ≤ 2410
+  above-small : above ≤ suc (suc heightMost) * suc widthMost
   above-small =
       let p = s .pre in
-      rw above-is (mul-le-mul {n₁ = top} {m₁ = slotOf S} {n₂ = 10} {m₂ = 241} (omega arith) (omega arith))
+      rw above-is (mul-le-mul {n₁ = top} {m₁ = slotOf S} {n₂ = suc (suc heightMost)} {m₂ = suc widthMost} (omega arith) (omega arith))
 
   from : s .args .i * curve + above ≡ s .args .i * curveBytes S + top * slotOf S
   from = ap₂ (λ (x y : ℕ). s .args .i * x + y) (c .before .before .curve-bytes .ensures) above-is

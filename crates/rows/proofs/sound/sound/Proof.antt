@@ -13,7 +13,7 @@ use Rattle.poly.specs.Table.{TooLarge}
 use Rattle.poly.proofs.TableLaws.{decided-true, decided-false}
 use Rattle.rows.specs.Bytes.{rowsBytes, rowsOf}
 use Rattle.rows.specs.Work.{Bytes, SoundRow}
-use Rattle.rows.proofs.Soundness.{bytes-below, sound-row, row-sound}
+use Rattle.rows.proofs.sound.Soundness.{bytes-below, sound-row, row-sound}
 use Rattle.rows.proofs.sound.sound.Statement.{statement}
 use Rattle.rows.proofs.sound.sound.Tie as tie
 

@@ -3,8 +3,8 @@ use mathlib.Core.Path.{_∙_}
 use native.Mathlib.Omega.{arith}
 use borrow.Author.Needs.{needs}
 use Rattle.field.proofs.OperationLaws.{invByte-below}
-use Rattle.rows.proofs.Places.{place-inside, place-below}
-use Rattle.rows.proofs.CrossedRows.{place-r, place-s, ratio-byte}
+use Rattle.rows.proofs.Placing.{place-inside, place-below}
+use Rattle.rows.proofs.update.CrossedRows.{place-r, place-s, ratio-byte}
 use Rattle.rows.proofs.update.ratio.Statement.{statement}
 use Rattle.rows.proofs.update.ratio.Tie as tie
 

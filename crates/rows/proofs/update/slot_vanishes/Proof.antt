@@ -8,7 +8,7 @@ use Rattle.field.specs.Operations.{minusBytes, timesBytes}
 use Rattle.field.proofs.OperationLaws.{timesBytes-below}
 use Rattle.poly.proofs.TableLaws.{decided-true, decided-false}
 use Rattle.rows.specs.Work.{delayedByte}
-use Rattle.rows.proofs.Vanishing.{delayed-below}
+use Rattle.rows.proofs.update.Vanishing.{delayed-below}
 use Rattle.rows.proofs.update.slot_vanishes.Statement.{statement}
 use Rattle.rows.proofs.update.slot_vanishes.Tie as tie
 

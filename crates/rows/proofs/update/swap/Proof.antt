@@ -5,7 +5,7 @@ use native.Mathlib.Omega.{arith}
 use lib.ListN.{length-set}
 use borrow.Author.Needs.{needs}
 use Rattle.rows.specs.Work.{Exchanged}
-use Rattle.rows.proofs.Exchanging.{exchanged-none, exchanged-more}
+use Rattle.rows.proofs.update.Exchanging.{exchanged-none, exchanged-more}
 use Rattle.rows.proofs.update.swap.Statement.{statement}
 use Rattle.rows.proofs.update.swap.Tie as tie
 

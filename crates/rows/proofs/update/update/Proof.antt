@@ -4,11 +4,12 @@ use Prim.Native.Nat.{ℕ, _+_, _*_, _≤_, _<_}
 use native.Mathlib.Omega.{arith}
 use borrow.Author.Needs.{needs}
 use Rattle.field.proofs.OperationLaws.{negByte-below}
+use Rattle.poly.specs.Limits.{rowsMost}
 use Rattle.rows.specs.Bytes.{curveBytes}
 use Rattle.rows.specs.Work.{Crosses}
-use Rattle.rows.proofs.Places.{rows-small}
-use Rattle.rows.proofs.CrossedRows.{crosses-w, crosses-v, ratio-below}
-use Rattle.rows.proofs.Updating.{row-in, width-in, asks-subtract, asks-swap, asks-scale, asks-exchanged, subtract-leaves, exchange-leaves}
+use Rattle.rows.proofs.Placing.{rows-small}
+use Rattle.rows.proofs.update.CrossedRows.{crosses-w, crosses-v, ratio-below}
+use Rattle.rows.proofs.update.Updating.{row-in, width-in, asks-subtract, asks-swap, asks-scale, asks-exchanged, subtract-leaves, exchange-leaves}
 use Rattle.rows.proofs.update.update.Statement.{statement}
 use Rattle.rows.proofs.update.update.Tie as tie
 
@@ -25,10 +26,10 @@ module _ (c : tie.After-ratio) where
   is : len ≡ curveBytes (s .args .shape)
   is = c .before .before .curve-bytes .ensures
 
-  small-r : s .args .r * len + len ≤ 19521
+  small-r : s .args .r * len + len ≤ rowsMost
   small-r = omega (arith, row-in x is (s .args .r) (x .current), rows-small (x .bytes .fine))
 
-  small-s : s .args .s * len + len ≤ 19521
+  small-s : s .args .s * len + len ≤ rowsMost
   small-s = omega (arith, row-in x is (s .args .s) (x .other), rows-small (x .bytes .fine))
 
   factor : c .ratio .result .value < s .args .shape .p

@@ -6,14 +6,15 @@ use borrow.Author.Count.{below-more}
 use borrow.Author.Needs.{needs}
 use borrow.Author.Tests.{not-true, not-false}
 use Rattle.field.specs.Symbols.{symbol, symbols}
+use Rattle.poly.specs.Limits.{rowsMost}
 use Rattle.poly.specs.Buffers.{Decided}
 use Rattle.poly.proofs.TableLaws.{decided-true, decided-false}
-use Rattle.rows.specs.Turns.{ratio as ratioOf, cross}
+use Rattle.curves.specs.Turns.{ratio as ratioOf, cross}
 use Rattle.rows.specs.Bytes.{slot as slotOf, curveBytes, rowsOf}
 use Rattle.rows.specs.declared.Shape.{Shape}
-use Rattle.rows.proofs.Places.{slot-end, row-end, rows-small}
-use Rattle.rows.proofs.CrossedRows.{ratio-below}
-use Rattle.rows.proofs.Vanishing.{Vanishing, vanishing-is, slot-zero, zero-slot, row-zero, slot-region}
+use Rattle.rows.proofs.Placing.{slot-end, row-end, rows-small}
+use Rattle.rows.proofs.update.CrossedRows.{ratio-below}
+use Rattle.rows.proofs.update.Vanishing.{Vanishing, vanishing-is, slot-zero, zero-slot, row-zero, slot-region}
 use Rattle.rows.proofs.update.vanishes.Statement.{statement}
 use Rattle.rows.proofs.update.vanishes.Tie as tie
 
@@ -43,17 +44,17 @@ module _ (c : tie.Then1 Inv-loop μ-loop) where
   at-is : (i : ℕ) → at i ≡ i * curveBytes S + j * slotOf S
   at-is i = ap₂ (λ (x y : ℕ). i * x + j * y) (c .before .before .before .before .curve-bytes .ensures) (c .before .before .before .slot .ensures)
 
-  at-small : (i : ℕ) → i ≤ S .l → at i < 19521
+  at-small : (i : ℕ) → i ≤ S .l → at i < rowsMost
   at-small i h = rw (at-is i) (omega (arith, row-end S h, slot-end S (c .if1 .taken), rows-small (s .pre .bytes .fine)))
 
 ratio-requires : tie.Need-ratio-requires Inv-loop μ-loop
 ratio-requires c κs = c .before .pre
 
-excess-requires : tie.Need-excess-requires Inv-loop μ-loop
-excess-requires c κs = search needs
+beyond-requires : tie.Need-beyond-requires Inv-loop μ-loop
+beyond-requires c κs = search needs
 
-excess-requires-2 : tie.Need-excess-requires-2 Inv-loop μ-loop
-excess-requires-2 c κs = search needs
+beyond-requires-2 : tie.Need-beyond-requires-2 Inv-loop μ-loop
+beyond-requires-2 c κs = search needs
 
 curve-bytes-requires : tie.Need-curve-bytes-requires Inv-loop μ-loop
 curve-bytes-requires c κs = c .before .before .before .before .pre .bytes .fine
@@ -94,7 +95,7 @@ answer : (c : tie.After-slot-vanishes Inv-loop μ-loop) → let n = c .before in
 answer c =
     let n = c .before in
     let e = n .before .before .before .before .before in
-    vanishing-is (s n .pre) (j n) (e .before .before .ratio .ensures) (at-is n (s n .args .r)) (e .before .excess .ensures) (at-is n (s n .args .s)) (e .excess2 .ensures) (c .slot-vanishes .ensures)
+    vanishing-is (s n .pre) (j n) (e .before .before .ratio .ensures) (at-is n (s n .args .r)) (e .before .beyond .ensures) (at-is n (s n .args .s)) (e .beyond2 .ensures) (c .slot-vanishes .ensures)
 
 returns : tie.Need-returns Inv-loop μ-loop
 returns c =
@@ -124,8 +125,8 @@ vanishes-spec =
     Inv-loop
     μ-loop
     ratio-requires
-    excess-requires
-    excess-requires-2
+    beyond-requires
+    beyond-requires-2
     curve-bytes-requires
     slot-requires
     loop-holds

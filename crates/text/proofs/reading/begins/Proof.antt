@@ -6,7 +6,7 @@ use native.Mathlib.Omega.{arith}
 use borrow.Author.Count.{below-more}
 use borrow.Author.Needs.{needs}
 use lib.ListN.{length, getD}
-use Rattle.text.proofs.Places.{key-stands, key-bytes, key-room}
+use Rattle.text.proofs.Seeking.{key-stands, key-bytes, key-room}
 use Rattle.text.proofs.reading.begins.Statement.{statement}
 use Rattle.text.proofs.reading.begins.Tie as tie
 

@@ -3,8 +3,8 @@ use mathlib.Core.Path.{_∙_}
 use mathlib.Core.Bool.{false≢true, true≢false}
 use native.Mathlib.Omega.{arith}
 use borrow.Author.Needs.{needs}
-use Rattle.text.proofs.Places.{key-room}
-use Rattle.text.proofs.Spans.{stands, stands-not}
+use Rattle.text.proofs.Seeking.{key-room}
+use Rattle.text.proofs.StandingLines.{stands, stands-not}
 use Rattle.text.proofs.Grammar.{line-flat}
 use Rattle.text.proofs.reading.line_at.Statement.{statement}
 use Rattle.text.proofs.reading.line_at.Tie as tie

@@ -4,7 +4,7 @@ use borrow.Author.Tests.{not-true, not-false}
 use borrow.Author.Needs.{needs}
 use Rattle.text.specs.Reading.{Stands}
 use Rattle.text.proofs.Grammar.{number-plain}
-use Rattle.text.proofs.Spans.{takes-none, takes}
+use Rattle.text.proofs.StandingLines.{takes-none, takes}
 use Rattle.text.proofs.reading.number_line.Statement.{statement}
 use Rattle.text.proofs.reading.number_line.Tie as tie
 

@@ -3,7 +3,7 @@ use Prim.Native.Nat.{_-_}
 use native.Mathlib.Omega.{arith}
 use borrow.Author.Tests.{not-true, not-false}
 use borrow.Author.Needs.{needs}
-use Rattle.text.specs.Requests.{most}
+use Rattle.poly.specs.Limits.{fieldMost}
 use Rattle.text.proofs.Items.{SoFar, none-yet, more-items, last-item, no-item, too-many}
 use Rattle.text.proofs.reading.numbers.Statement.{statement}
 use Rattle.text.proofs.reading.numbers.Tie as tie
@@ -12,7 +12,7 @@ abbrev Inv-loop : tie.InvT-loop
 Inv-loop text items₀ count₀ at₀ items count at = SoFar text items count at
 
 abbrev μ-loop : tie.MeasureT-loop
-μ-loop text items₀ count₀ at₀ items count at = most - count
+μ-loop text items₀ count₀ at₀ items count at = fieldMost - count
 
 loop-holds : tie.Need-loop-holds Inv-loop μ-loop
 loop-holds c = none-yet (c .before .args .text .now)

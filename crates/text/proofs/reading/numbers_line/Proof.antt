@@ -5,7 +5,7 @@ use borrow.Author.Tests.{not-true, not-false}
 use borrow.Author.Needs.{needs}
 use Rattle.text.specs.Reading.{Stands}
 use Rattle.text.proofs.Grammar.{listed-plain}
-use Rattle.text.proofs.Spans.{takes-none, takes}
+use Rattle.text.proofs.StandingLines.{takes-none, takes}
 use Rattle.text.proofs.reading.numbers_line.Statement.{statement}
 use Rattle.text.proofs.reading.numbers_line.Tie as tie
 

@@ -5,7 +5,7 @@ use native.Mathlib.Omega.{arith}
 use borrow.Author.Count.{below-more}
 use borrow.Author.Needs.{needs}
 use lib.ListN.{length, getD}
-use Rattle.text.proofs.Places.{part-free}
+use Rattle.text.proofs.Seeking.{part-free}
 use Rattle.text.proofs.reading.seek.Statement.{statement}
 use Rattle.text.proofs.reading.seek.Tie as tie
 

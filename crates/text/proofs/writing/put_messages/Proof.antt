@@ -7,7 +7,7 @@ use borrow.Author.Needs.{needs}
 use lib.ListN.{length}
 use Rattle.text.specs.Answers.{messageLines}
 use Rattle.text.specs.Writing.{Put}
-use Rattle.text.proofs.Places.{part-long}
+use Rattle.text.proofs.Seeking.{part-long}
 use Rattle.text.proofs.Puts.{put-nothing, put-bound, put-long, put-more}
 use Rattle.text.proofs.writing.put_messages.Statement.{statement}
 use Rattle.text.proofs.writing.put_messages.Tie as tie

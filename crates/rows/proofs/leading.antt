@@ -1,0 +1,2 @@
+-- What the search for a leading term stands on.
+pub mod Finding

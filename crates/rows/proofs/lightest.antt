@@ -1,0 +1,2 @@
+-- What handing over the lightest row stands on.
+pub mod HandedCurve

@@ -1,0 +1,2 @@
+-- What the entry test stands on.
+pub mod Soundness
