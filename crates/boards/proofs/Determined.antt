@@ -31,7 +31,8 @@ start-call-determined {note = note} (StartCall.done x job has e n) (StartCall.do
 pub turn-call-determined : {allowance : ℕ} {note note₁ note₂ rows rows₁ rows₂ back back₁ back₂ : List ℕ} {a b : ℕ}
     → TurnCall allowance note note₁ rows rows₁ back back₁ a → TurnCall allowance note note₂ rows rows₂ back back₂ b
     → (a ≡ b) × (note₁ ≡ note₂) × (rows₁ ≡ rows₂) × (back₁ ≡ back₂)
-turn-call-determined (TurnCall.short-note h e n r q) (TurnCall.short-note h′ e′ n′ r′ q′) = (e ∙ sym e′, n ∙ sym n′, r ∙ sym r′, cleared-determined q q′)
+turn-call-determined (TurnCall.short-note h e n r q) (TurnCall.short-note h′ e′ n′ r′ q′) =
+    (e ∙ sym e′, n ∙ sym n′, r ∙ sym r′, cleared-determined q q′)
 turn-call-determined (TurnCall.short-note h e n r q) (TurnCall.short-back x h′ f n′ r′ q′) = absurd (omega arith)
 turn-call-determined (TurnCall.short-note h e n r q) (TurnCall.done x y job has e′ n′ q′) = absurd (omega arith)
 turn-call-determined (TurnCall.short-back x h f n r q) (TurnCall.short-note h′ e n′ r′ q′) = absurd (omega arith)
@@ -67,8 +68,10 @@ finish-call-determined {back = back} (FinishCall.done x y job has e q) (FinishCa
       q ∙ ap (λ j. backInto (record { updates = 0; weight = j .weight; height = j .height; count = 0 }) back) (same .0) ∙ sym q′,
     )
 
-pub list-call-determined : {p : ℕ} {points word : List ℕ} {k m l t : ℕ} {room room₁ room₂ messages messages₁ messages₂ back back₁ back₂ : List ℕ} {a b : ℕ}
-    → ListCall p points word k m l t room room₁ messages messages₁ back back₁ a → ListCall p points word k m l t room room₂ messages messages₂ back back₂ b
+pub list-call-determined : {p : ℕ} {points word : List ℕ} {k m l t : ℕ} {room room₁ room₂ messages messages₁ messages₂ back back₁ back₂ : List ℕ}
+    {a b : ℕ}
+    → ListCall p points word k m l t room room₁ messages messages₁ back back₁ a
+    → ListCall p points word k m l t room room₂ messages messages₂ back back₂ b
     → (a ≡ b) × (room₁ ≡ room₂) × (messages₁ ≡ messages₂) × (back₁ ≡ back₂)
 list-call-determined {p} {points} {word} {k} {m} {l} {t} {a = a} {b} (ListCall.short-back h f r n q) (ListCall.short-back h′ f′ r′ n′ q′) =
     (first-determined (listTable p points word k m l t [] []) a b f f′, r ∙ sym r′, n ∙ sym n′, q ∙ sym q′)

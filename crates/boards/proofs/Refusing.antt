@@ -36,10 +36,12 @@ list-refuses {p} {points} {word} {k} {m} {l} {t} first z =
     first-passed (listTable p points word k m l t [] []) (search needs) first z .1 .1 .1 .1 .1 .1 .1 .1 .0
     (inl (omega arith))
 
-pub turn-refused : {note : Note} {allowance : ℕ} {after : List ℕ} {job : Turned} → HasTurned note allowance [] after job → First (turnTable note []) (job .number)
+pub turn-refused : {note : Note} {allowance : ℕ} {after : List ℕ} {job : Turned} → HasTurned note allowance [] after job
+    → First (turnTable note []) (job .number)
 turn-refused {note} has = subst (First (turnTable note [])) (sym (has .refused (turn-refuses (has .first)) .0)) (has .first)
 
-pub list-refused : {p : ℕ} {points word : List ℕ} {k m l t : ℕ} {room messages : List ℕ} {job : Near} → HasListed p points word k m l t [] room [] messages job
+pub list-refused : {p : ℕ} {points word : List ℕ} {k m l t : ℕ} {room messages : List ℕ} {job : Near}
+    → HasListed p points word k m l t [] room [] messages job
     → First (listTable p points word k m l t [] []) (job .number)
 list-refused {p} {points} {word} {k} {m} {l} {t} has =
     subst (First (listTable p points word k m l t [] [])) (sym (ap (λ j. j .number) (has .refused (list-refuses (has .first)) .0))) (has .first)

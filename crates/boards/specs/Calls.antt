@@ -39,7 +39,8 @@ pub data FinishCall (note rows curve curve′ back back′ : List ℕ) (number :
   short-note : length note < noteBytes → number ≡ 9 → curve′ ≡ curve → Cleared back back′ → FinishCall note rows curve curve′ back back′ number
   short-back : noteBytes ≤ length note → length back < backBytes → First (finishTable (noteOf note) rows []) number → curve′ ≡ curve
       → back′ ≡ back → FinishCall note rows curve curve′ back back′ number
-  done : noteBytes ≤ length note → backBytes ≤ length back → (job : Finished) → HasFinished (noteOf note) rows curve curve′ job → number ≡ job .number
+  done : noteBytes ≤ length note → backBytes ≤ length back → (job : Finished) → HasFinished (noteOf note) rows curve curve′ job
+      → number ≡ job .number
       → back′ ≡ backInto (record { updates = 0; weight = job .weight; height = job .height; count = 0 }) back
       → FinishCall note rows curve curve′ back back′ number
 

@@ -94,7 +94,8 @@ pub extern "C" fn pluck_start(
     rows: &mut [u8],
     note: &mut [u8],
 ) -> u8
-    ensures { λ number. ⌜ StartCall p (now (points .entry)) (now (word .entry)) k m l (now (rows .entry)) (now (rows .exit)) (now (note .entry)) (now (note .exit)) number ⌝ }
+    ensures { λ number. ⌜ StartCall p (now (points .entry)) (now (word .entry)) k m l (now (rows .entry)) (now (rows .exit)) (now (note .entry))
+        (now (note .exit)) number ⌝ }
 {
     if note.len() < NOTE_BYTES {
         return rows::start(p, points, word, k, m, l, &mut []).number;
@@ -111,7 +112,8 @@ pub extern "C" fn pluck_turn(
     allowance: u16,
     back: &mut [u8],
 ) -> u8
-    ensures { λ number. ⌜ TurnCall allowance (now (note .entry)) (now (note .exit)) (now (rows .entry)) (now (rows .exit)) (now (back .entry)) (now (back .exit)) number ⌝ }
+    ensures { λ number. ⌜ TurnCall allowance (now (note .entry)) (now (note .exit)) (now (rows .entry)) (now (rows .exit)) (now (back .entry))
+        (now (back .exit)) number ⌝ }
 {
     if note.len() < NOTE_BYTES {
         clear_back(back);
@@ -136,7 +138,8 @@ pub extern "C" fn pluck_turn(
 
 #[no_mangle]
 pub extern "C" fn pluck_finish(note: &[u8], rows: &[u8], curve: &mut [u8], back: &mut [u8]) -> u8
-    ensures { λ number. ⌜ FinishCall (now (note .entry)) (now (rows .entry)) (now (curve .entry)) (now (curve .exit)) (now (back .entry)) (now (back .exit)) number ⌝ }
+    ensures { λ number. ⌜ FinishCall (now (note .entry)) (now (rows .entry)) (now (curve .entry)) (now (curve .exit)) (now (back .entry))
+        (now (back .exit)) number ⌝ }
 {
     if note.len() < NOTE_BYTES {
         clear_back(back);
@@ -171,7 +174,8 @@ pub extern "C" fn pluck_list(
     messages: &mut [u8],
     back: &mut [u8],
 ) -> u8
-    ensures { λ number. ⌜ ListCall p (now (points .entry)) (now (word .entry)) k m l t (now (room .entry)) (now (room .exit)) (now (messages .entry)) (now (messages .exit)) (now (back .entry)) (now (back .exit)) number ⌝ }
+    ensures { λ number. ⌜ ListCall p (now (points .entry)) (now (word .entry)) k m l t (now (room .entry)) (now (room .exit))
+        (now (messages .entry)) (now (messages .exit)) (now (back .entry)) (now (back .exit)) number ⌝ }
 {
     if back.len() < BACK_BYTES {
         return near::list(p, points, word, k, m, l, t, &mut [], &mut []).number;

@@ -74,12 +74,15 @@ module _ {R : Ring} (L : RingLaws R) (h : Seq R) (E : ℕ → Seq R) (m K : ℕ)
       turn : (x y z : Plane) → x ⊗ (𝟙₂ ⊗ y ⊗ z) ≡ y ⊗ (x ⊗ z)
       turn x y z = ring (series LL) (x ∷ y ∷ z ∷ []) (search readings depth 25) tt
 
-  pub combination-is : (q : ℕ → Seq R) → ((i : ℕ) → E (m + i) ≡ oneS R) → sum (Series SR) (m + K) (λ i. xTimes R (q i) (row R m E h i)) ≡ shift SR (negS R h) (m + K) (expanded q)
+  pub combination-is : (q : ℕ → Seq R) → ((i : ℕ) → E (m + i) ≡ oneS R)
+      → sum (Series SR) (m + K) (λ i. xTimes R (q i) (row R m E h i)) ≡ shift SR (negS R h) (m + K) (expanded q)
   combination-is q one =
       sum-split (series LL) m K (λ i. xTimes R (q i) (row R m E h i))
       ∙ ap₂ _⊕_
-      (sum-cong (series LL) m (λ i. xTimes R (q i) (row R m E h i)) (λ i. constS SR (expanded q i) ⊗ pow (Series SR) (xPlus SR (negS R h)) i) (λ i l. low-term q i l))
-      (sum-cong (series LL) K (λ i. xTimes R (q (m + i)) (row R m E h (m + i))) (λ i. lin^ m ⊗ (constS SR (q (m + i)) ⊗ y^ i)) (λ i l. high-term q i (one i))
+      (sum-cong (series LL) m (λ i. xTimes R (q i) (row R m E h i)) (λ i. constS SR (expanded q i) ⊗ pow (Series SR) (xPlus SR (negS R h)) i)
+      (λ i l. low-term q i l))
+      (sum-cong (series LL) K (λ i. xTimes R (q (m + i)) (row R m E h (m + i))) (λ i. lin^ m ⊗ (constS SR (q (m + i)) ⊗ y^ i))
+      (λ i l. high-term q i (one i))
       ∙ sum-mul (series LL) (lin^ m) K (λ i. constS SR (q (m + i)) ⊗ y^ i)
       ∙ ap₂ _⊗_ (ap (λ (g : Plane). pow (Series SR) g m) (sym (xPlus-neg SR h))) (sym (first-terms LL K (drop SR m q)) ∙ sym back))
       ∙ sym (shift-split LL (negS R h) m K (expanded q))

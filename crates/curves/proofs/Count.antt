@@ -85,7 +85,8 @@ module _ {F : Field} (Φ : FieldLaws F) where
           },
         )
 
-    pub good-begins : Sound R u W l r rows → LeadsAt R u r (rows r) → r ≤ l → ((i : ℕ) → r < i → i ≤ l → Fresh R u W (b i) i (rows i)) → cost b l ≤ cost b r + left → Good R u W l b (suc r) left rows
+    pub good-begins : Sound R u W l r rows → LeadsAt R u r (rows r) → r ≤ l → ((i : ℕ) → r < i → i ≤ l → Fresh R u W (b i) i (rows i))
+        → cost b l ≤ cost b r + left → Good R u W l b (suc r) left rows
     good-begins g p h fresh pay = record { inside = omega arith; sound = sound-rises g p; busy = busy-begins g fresh pay }
 
     module _ (g : Good R u W l b r left rows) where
@@ -154,8 +155,10 @@ pub record Served (F : Field) (u W l : ℕ) (b : ℕ → ℕ) (r left a : ℕ) (
   pub spent : Spent l (o .row) (o .updates) a remains
 
 module _ {F : Field} (Φ : FieldLaws F) {u W l : ℕ} {b : ℕ → ℕ} where
-  pub turn-serves : {r left a : ℕ} {rows : ℕ → Curve (F .ring)} {o : Outcome F} → Good (F .ring) u W l b r left rows → Turn F u l a rows r o → Served F u W l b r left a o
-  turn-serves {left = left} g (finished h) = record { number = refl; onward = omega arith; remains = left; count = omega arith; good = g; spent = inl (omega arith) }
+  pub turn-serves : {r left a : ℕ} {rows : ℕ → Curve (F .ring)} {o : Outcome F} → Good (F .ring) u W l b r left rows → Turn F u l a rows r o
+      → Served F u W l b r left a o
+  turn-serves {left = left} g (finished h) =
+      record { number = refl; onward = omega arith; remains = left; count = omega arith; good = g; spent = inl (omega arith) }
   turn-serves g (rises w h p t) =
       let y = turn-serves (good-rises Φ g h (w, p)) t in
       record { number = y .number; onward = omega arith; remains = y .remains; count = y .count; good = y .good; spent = y .spent }
@@ -167,5 +170,12 @@ module _ {F : Field} (Φ : FieldLaws F) {u W l : ℕ} {b : ℕ → ℕ} where
   turn-serves g (updates w s v d n t) =
       let k = good-open Φ g d in
       let y = turn-serves (good-next Φ g d .1) t in
-      record { number = y .number; onward = y .onward; remains = y .remains; count = omega arith; good = y .good; spent = spent-map (ap suc) (y .spent) }
+      record {
+        number = y .number;
+        onward = y .onward;
+        remains = y .remains;
+        count = omega arith;
+        good = y .good;
+        spent = spent-map (ap suc) (y .spent);
+      }
   turn-serves g (halts w s v d z) = absurd (good-next Φ g d .0 z)

@@ -37,15 +37,18 @@ module _ {R : Ring} (L : RingLaws R) where
     cross-height h HP HQ j i l = cross-null j i (λ e q. HP j e l) (λ e q. HQ j e l)
 
     -- both lead at y^s, and the leading terms cancel
-    pub cross-under : {u w v s : ℕ} (p : Lead R u w s P) (q : Lead R u v s Q) → a + w ≡ b + v → c ⊗ Q s (q .degree) ≡ P s (p .degree) → Under R u (a + w) s (cross R a P c b Q)
+    pub cross-under : {u w v s : ℕ} (p : Lead R u w s P) (q : Lead R u v s Q) → a + w ≡ b + v → c ⊗ Q s (q .degree) ≡ P s (p .degree)
+        → Under R u (a + w) s (cross R a P c b Q)
     cross-under {u} {w} {v} {s} p q m r =
         under-step R u (a + w) s (cross R a P c b Q)
-        (λ j i le f. cross-null j i (λ e x. p .rest j e (omega arith) (λ y. f (omega arith))) (λ e x. q .rest j e (omega arith) (λ y. f (omega arith))))
+        (λ j i le f. cross-null j i (λ e x. p .rest j e (omega arith) (λ y. f (omega arith)))
+        (λ e x. q .rest j e (omega arith) (λ y. f (omega arith))))
         (λ i x.
         let pw = p .weight in
         let qw = q .weight in
         let k : i ≡ a + p .degree = omega arith in
         let l : i ≡ b + q .degree = omega arith in
         cross-at s i
-        ∙ ap₂ (λ (x y : Car). x ⊕ ⊖ (c ⊗ y)) (ap (delay R a (P s)) k ∙ delay-at R a (p .degree) (P s)) (ap (delay R b (Q s)) l ∙ delay-at R b (q .degree) (Q s))
+        ∙ ap₂ (λ (x y : Car). x ⊕ ⊖ (c ⊗ y)) (ap (delay R a (P s)) k ∙ delay-at R a (p .degree) (P s))
+        (ap (delay R b (Q s)) l ∙ delay-at R b (q .degree) (Q s))
         ∙ rw (← r) (ring L (c ∷ Q s (q .degree) ∷ []) (search readings depth 25) tt))

@@ -27,7 +27,8 @@ pub record Stage (R : Ring) (u r w s D : ℕ) (rows : ℕ → Curve R) : Type 0 
 
 -- w - u r - D is not negative, and positive if s < r
 pub stage-potential : {R : Ring} {u r w s D : ℕ} {rows : ℕ → Curve R} → Stage R u r w s D rows → (D + u * r ≤ w) × (s < r → D + u * r < w)
-stage-potential {R} {u} {r} {w} {s} {D} {rows} t = let f = under-smaller R u w (suc s) (rows r) (t .lead .rest) r D (t .top) in (f .0, λ k. go f k (decLt (D + u * r) w))
+stage-potential {R} {u} {r} {w} {s} {D} {rows} t = let f = under-smaller R u w (suc s) (rows r) (t .lead .rest) r D (t .top) in
+    (f .0, λ k. go f k (decLt (D + u * r) w))
   where
     go : (D + u * r ≤ w) × (w ≤ D + u * r → r < suc s) → s < r → Dec (D + u * r < w) → D + u * r < w
     go f k (yes h) = h
@@ -48,7 +49,16 @@ module _ {F : Field} (Φ : FieldLaws F) {u W l r : ℕ} {rows : ℕ → Curve (F
     where
       go : ZeroOrLeads R u (rows (suc r)) → (w : ℕ) × (s : ℕ) × Stage R u (suc r) w s (f .degree) rows
       go (inl z) = absurd (f .top (z (suc r) (f .degree)))
-      go (inr (w, s, p)) = (w, s, record { lead = p; top = f .top; past = f .past; slack = λ i v k q e x y. g .low i (omega arith) (omega arith) (suc r) e (omega arith) })
+      go (inr (w, s, p)) = (
+        w,
+        s,
+        record {
+          lead = p;
+          top = f .top;
+          past = f .past;
+          slack = λ i v k q e x y. g .low i (omega arith) (omega arith) (suc r) e (omega arith);
+        },
+      )
 
   module _ {w s v D : ℕ} (d : Due R u l r rows w s v) (t : Stage R u r w s D rows) where
     abbrev new : ℕ → Curve R
@@ -58,7 +68,8 @@ module _ {F : Field} (Φ : FieldLaws F) {u W l r : ℕ} {rows : ℕ → Curve (F
     top-stays e le =
         let k = sound-below g d in
         let c : Car = ratio F u s w v (rows r) (rows s) in
-        let z : delay R (w - v) (rows s r) (v - w + e) ≡ 𝟘 = delay-null R (w - v) (v - w + e) (rows s r) (λ i x. t .slack s v k (d .below) i (omega arith) (λ y. omega arith)) in
+        let z : delay R (w - v) (rows s r) (v - w + e) ≡ 𝟘 =
+        delay-null R (w - v) (v - w + e) (rows s r) (λ i x. t .slack s v k (d .below) i (omega arith) (λ y. omega arith)) in
         ap (λ (Q : Curve R). Q r (v - w + e)) (update-r Φ d)
         ∙ cross-at L (v - w) (rows r) c (w - v) (rows s) r (v - w + e)
         ∙ rw (delay-at R (v - w) e (rows r r), z, mul-zero L c, neg-zero L) (add-zero L _)
@@ -66,7 +77,8 @@ module _ {F : Field} (Φ : FieldLaws F) {u W l r : ℕ} {rows : ℕ → Curve (F
     -- what is asked of a row before r, of one that was not changed and of the old row r in the place of row s
     module _ (w′ s′ : ℕ) (f : Smaller w′ s′ (max w v) s) where
       slack-stays : (i x : ℕ) → i < r → Lead R u x i (rows i) → (e : ℕ) → v - w + D + x ≤ e + w′ → (e + w′ ≤ v - w + D + x → i ≤ s′) → rows i r e ≡ 𝟘
-      slack-stays i x k p e le h = let a = f .0 in t .slack i x k p e (omega arith) (λ y. let b = h (omega arith) in let z = f .1 (omega arith) in omega arith)
+      slack-stays i x k p e le h =
+          let a = f .0 in t .slack i x k p e (omega arith) (λ y. let b = h (omega arith) in let z = f .1 (omega arith) in omega arith)
 
       slack-swaps : (e : ℕ) → v - w + D + w ≤ e + w′ → (e + w′ ≤ v - w + D + w → s ≤ s′) → rows r r e ≡ 𝟘
       slack-swaps e le h = go (decLt D e)
@@ -86,7 +98,8 @@ module _ {F : Field} (Φ : FieldLaws F) {u W l r : ℕ} {rows : ℕ → Curve (F
               rw (n, q) (slack-swaps e (rw o at le) (rw (n, o) at h))
 
     pub stage-next : (w′ : ℕ) × (s′ : ℕ) × Stage R u r w′ s′ (v - w + D) new × Smaller w′ s′ (max w v) s
-    stage-next = let h = d .inside in let k = sound-below g d in go (update-led Φ d (suc r) (g .low r h (omega arith)) (g .low s (omega arith) (omega arith)))
+    stage-next = let h = d .inside in let k = sound-below g d in
+        go (update-led Φ d (suc r) (g .low r h (omega arith)) (g .low s (omega arith) (omega arith)))
       where
         top : new r r (v - w + D) ≢ 𝟘
         top z = t .top (sym (top-stays D (omega arith)) ∙ z)

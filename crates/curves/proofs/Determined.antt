@@ -8,7 +8,8 @@ use Rattle.curves.specs.Turns.{Due, Outcome, counted, Turn, finished, ri
 use Rattle.curves.proofs.Leads.{lead-unique}
 use native.Mathlib.Nat.{add-comm, suc-add}
 
-due-unique : {R : Ring} {u l r : ℕ} {rows : ℕ → Curve R} {w s v w′ s′ v′ : ℕ} → Due R u l r rows w s v → Due R u l r rows w′ s′ v′ → (w ≡ w′) × (s ≡ s′) × (v ≡ v′)
+due-unique : {R : Ring} {u l r : ℕ} {rows : ℕ → Curve R} {w s v w′ s′ v′ : ℕ} → Due R u l r rows w s v → Due R u l r rows w′ s′ v′
+    → (w ≡ w′) × (s ≡ s′) × (v ≡ v′)
 due-unique d e = let x = lead-unique (d .lead) (e .lead) in (x .0, x .1, lead-unique (rw (x .1) at (d .below)) (e .below) .0)
 
 module _ {F : Field} {u l : ℕ} where
@@ -45,5 +46,6 @@ module _ {F : Field} {u l : ℕ} where
   turn-more c (updates {a = a} w s v d n t) e = rw (suc-add a c) (updates w s v d n (turn-more c t e))
   turn-more c (halts w s v d z) e = let h = d .inside in absurd (omega arith)
 
-  pub end-determined : {a b r : ℕ} {rows : ℕ → Curve (F .ring)} {o p : Outcome F} → Turn F u l a rows r o → o .row ≡ suc l → Turn F u l b rows r p → p .row ≡ suc l → o ≡ p
+  pub end-determined : {a b r : ℕ} {rows : ℕ → Curve (F .ring)} {o p : Outcome F} → Turn F u l a rows r o → o .row ≡ suc l → Turn F u l b rows r p
+      → p .row ≡ suc l → o ≡ p
   end-determined {a} {b} t e q f = rule-determined (turn-more b t e) (rw (add-comm a b) (turn-more a q f))

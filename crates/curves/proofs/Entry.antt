@@ -109,9 +109,11 @@ module _ (F : Field) {u W l r : ℕ} {rows : ℕ → Curve (F .ring)} (kept : (S
         high = λ i h k j e a. stays (λ s. s .high i h k j e a);
         own = λ i h k.
             own i h k
-            (lead? F u (rows i) (suc r) (suc W) (λ j e a. stays (λ s. s .low i h (omega arith) j e a)) (λ j e a b. stays (λ s. s .light i h j e a b)));
+            (lead? F u (rows i) (suc r) (suc W) (λ j e a. stays (λ s. s .low i h (omega arith) j e a))
+            (λ j e a b. stays (λ s. s .light i h j e a b)));
       }
     where
       own : (i : ℕ) → i ≤ l → i < r → ZeroOrLeads (F .ring) u (rows i) → LeadsAt (F .ring) u i (rows i)
       own i h k (inl z) = absurd (kept (λ s. s .nonzero i h z))
-      own i h k (inr (w, t, p)) = let e : t ≡ i = dec→stable (ℕ-discrete t i) (λ n. kept (λ s. n (lead-unique p (s .own i h k .1) .1))) in (w, rw e at p)
+      own i h k (inr (w, t, p)) = let e : t ≡ i = dec→stable (ℕ-discrete t i) (λ n. kept (λ s. n (lead-unique p (s .own i h k .1) .1))) in
+          (w, rw e at p)

@@ -15,10 +15,12 @@ unfolding update put
 update-alike F u l {r} {s} w v h k same i x = rw (same r h, same s k, same i x)
 
 module _ {F : Field} (Φ : FieldLaws F) {u W l : ℕ} where
-  pub end-alike : {a r : ℕ} {rows new : ℕ → Curve (F .ring)} {o : Outcome F} → Sound (F .ring) u W l r rows → ((i : ℕ) → i ≤ l → new i ≡ rows i) → Turn F u l a rows r o → o .row ≡ suc l
+  pub end-alike : {a r : ℕ} {rows new : ℕ → Curve (F .ring)} {o : Outcome F} → Sound (F .ring) u W l r rows → ((i : ℕ) → i ≤ l → new i ≡ rows i)
+      → Turn F u l a rows r o → o .row ≡ suc l
       → (p : Outcome F) × Turn F u l a new r p × (p .row ≡ suc l) × (p .updates ≡ o .updates)
   end-alike {r = r} {new = new} g same (finished h) e = (stops F 0 new r, finished h, e, refl)
-  end-alike {r = r} {new = new} g same (rises w h x t) e = let (p, q, i, j) = end-alike (sound-rises g (w, x)) same t e in (p, rises {rows = new} {r = r} w h (rw (same r h) x) q, i, j)
+  end-alike {r = r} {new = new} g same (rises w h x t) e =
+      let (p, q, i, j) = end-alike (sound-rises g (w, x)) same t e in (p, rises {rows = new} {r = r} w h (rw (same r h) x) q, i, j)
   end-alike g same (pauses w s h x n) e = absurd (omega arith)
   end-alike {r = r} {new = new} g same (updates w s v d n t) e =
       let h = d .inside in
@@ -26,7 +28,9 @@ module _ {F : Field} (Φ : FieldLaws F) {u W l : ℕ} where
       let alike = update-alike F u l {s = s} w v h (omega arith) same in
       let (p, q, i, j) = end-alike (sound-update Φ g d n) alike t e in (
         counted F p,
-        updates {rows = new} w s v (record { inside = h; lead = rw (same r h) (d .lead); other = d .other; below = rw (same s (omega arith)) (d .below) }) (λ z. n (rw (alike r h) at z)) q,
+        updates {rows = new} w s v
+            (record { inside = h; lead = rw (same r h) (d .lead); other = d .other; below = rw (same s (omega arith)) (d .below) })
+            (λ z. n (rw (alike r h) at z)) q,
         i,
         ap suc j,
       )

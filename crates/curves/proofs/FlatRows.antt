@@ -16,20 +16,23 @@ pub record Flat (R : Ring) (l : ℕ) (rows : ℕ → Curve R) : Type 0 where
   pub past : (i : ℕ) → l < i → Zero R (rows i)
 
 module _ {F : Field} (Φ : FieldLaws F) {u l : ℕ} where
-  pub update-flat : {r w s v : ℕ} {rows : ℕ → Curve (F .ring)} (d : Due (F .ring) u l r rows w s v) → s < r → Flat (F .ring) l rows → Flat (F .ring) l (update F u r w s v rows)
+  pub update-flat : {r w s v : ℕ} {rows : ℕ → Curve (F .ring)} (d : Due (F .ring) u l r rows w s v) → s < r → Flat (F .ring) l rows
+      → Flat (F .ring) l (update F u r w s v rows)
   update-flat {r} {w} {s} {v} {rows} d k f =
       record {
         height = λ i. height i (ℕ-discrete i r) (ℕ-discrete i s) (update-s Φ d);
         past = λ i h. let x = d .inside in rw (update-other Φ d i (omega arith) (omega arith)) (f .past i h);
       }
     where
-      height : (i : ℕ) → Dec (i ≡ r) → Dec (i ≡ s) → Swapped (F .ring) w v (rows r) (rows s) (update F u r w s v rows s) → Height (F .ring) (suc l) (update F u r w s v rows i)
+      height : (i : ℕ) → Dec (i ≡ r) → Dec (i ≡ s) → Swapped (F .ring) w v (rows r) (rows s) (update F u r w s v rows s)
+          → Height (F .ring) (suc l) (update F u r w s v rows i)
       height i (yes e) n q = rw e (update-height Φ d (suc l) (f .height r) (f .height s))
       height i (no e) (no n) q = rw (update-other Φ d i e n) (f .height i)
       height i (no e) (yes n) (inl (h, q)) = rw (n, q) (f .height s)
       height i (no e) (yes n) (inr (h, q)) = rw (n, q) (f .height r)
 
-  pub turn-flat : {W a r : ℕ} {rows : ℕ → Curve (F .ring)} {o : Outcome F} → Sound (F .ring) u W l r rows → Turn F u l a rows r o → Flat (F .ring) l rows → Flat (F .ring) l (o .rows)
+  pub turn-flat : {W a r : ℕ} {rows : ℕ → Curve (F .ring)} {o : Outcome F} → Sound (F .ring) u W l r rows → Turn F u l a rows r o
+      → Flat (F .ring) l rows → Flat (F .ring) l (o .rows)
   turn-flat g (finished h) f = f
   turn-flat g (rises w h p t) f = turn-flat (sound-rises g (w, p)) t f
   turn-flat g (pauses w s h p n) f = f

@@ -58,5 +58,6 @@ pub formula-positive : (n k m l : ℕ) → k < n → 1 ≤ m → 0 < formula n k
 unfolding total
 formula-positive n k zero l kn h = absurd (omega arith)
 formula-positive n k (suc m) l kn h =
-    let x : 1 * 1 ≤ (n - k) * total (suc m) (λ r. r * r) = mul-le-mul {n₁ = 1} {m₁ = 1} {n₂ = n - k} {m₂ = total (suc m) (λ r. r * r)} (omega arith) (omega arith) in
+    let x : 1 * 1 ≤ (n - k) * total (suc m) (λ r. r * r) =
+    mul-le-mul {n₁ = 1} {m₁ = 1} {n₂ = n - k} {m₂ = total (suc m) (λ r. r * r)} (omega arith) (omega arith) in
     omega arith

@@ -38,9 +38,11 @@ module _ {R : Ring} (L : RingLaws R) {n : ℕ} {a v : ℕ → R .Car} {h : Seq R
     along-bound = below-along L (fin .0) n N Q h (fin .1) (thr .short)
 
     -- E_j divides the coefficient of y^j along h
-    pub along-divides : Apart R n a → ((s : ℕ) → s < n → Vanish R (ms s) (moved R (fin .0) N (a s) (v s) Q)) → (j : ℕ) → Divides R (N * n + fin .0 - sumBelow n (λ s. ms s - j)) (E j) (shift (Series R) h N Q j)
+    pub along-divides : Apart R n a → ((s : ℕ) → s < n → Vanish R (ms s) (moved R (fin .0) N (a s) (v s) Q)) → (j : ℕ)
+        → Divides R (N * n + fin .0 - sumBelow n (λ s. ms s - j)) (E j) (shift (Series R) h N Q j)
     along-divides apart van j =
-        factorsAt-divide L n (N * n + fin .0) a (λ s. ms s - j) (shift (Series R) h N Q j) apart (along-bound j) (λ s l. along L thr s l N Q fin (ms s) (van s l) j)
+        factorsAt-divide L n (N * n + fin .0) a (λ s. ms s - j) (shift (Series R) h N Q j) apart (along-bound j)
+        (λ s l. along L thr s l N Q fin (ms s) (van s l) j)
 
   module _ (m : ℕ) (most : (s : ℕ) → s < n → ms s ≤ m) where
     factor-one : (i : ℕ) → E (m + i) ≡ oneS R
@@ -61,7 +63,8 @@ module _ {R : Ring} (L : RingLaws R) {n : ℕ} {a v : ℕ → R .Car} {h : Seq R
           record {
             factor = q;
             finite = λ i. (K * n + M, q-below i (decLt i m));
-            is = sym (shift-back (series L) h (m + K) Q tall) ∙ ap (shift (Series R) (negS R h) (m + K)) same ∙ sym (combination-is L h E m K q factor-one);
+            is = sym (shift-back (series L) h (m + K) Q tall) ∙ ap (shift (Series R) (negS R h) (m + K)) same
+                ∙ sym (combination-is L h E m K q factor-one);
           }
         where
           d : (j : ℕ) → Divides R (M - sumBelow n (λ s. ms s - j)) (E j) (b j)
@@ -87,7 +90,9 @@ module _ {R : Ring} (L : RingLaws R) {n : ℕ} {a v : ℕ → R .Car} {h : Seq R
           same =
               parts-ext (series L) m b (expanded L h E m K q)
               (λ j l. d j .is ∙ ap (mulS R (E j)) (sym (join-low (series L) m low high j l)) ∙ sym (expanded-low L h E m K q j l))
-              (λ i. ap (λ (T : Curve R). T i) (sym (expanded-high L h E m K q ∙ ap (shift (Series R) h K) (fun-ext {f = drop (Series R) m q} {g = high} (join-high (series L) m low high)) ∙ forth)))
+              (λ i. ap (λ (T : Curve R). T i)
+              (sym (expanded-high L h E m K q
+              ∙ ap (shift (Series R) h K) (fun-ext {f = drop (Series R) m q} {g = high} (join-high (series L) m low high)) ∙ forth)))
             where
               forth : shift (Series R) h K high ≡ drop (Series R) m b
               forth = shift-forth (series L) h K (drop (Series R) m b) (λ i l. below-shift (series L) h (m + K) Q (m + i) (omega arith))
@@ -111,17 +116,22 @@ module _ {R : Ring} (L : RingLaws R) {n : ℕ} {a v : ℕ → R .Car} {h : Seq R
       pub row-generates : Apart R n a → {Q : Curve R} → PassingEach R n ms l a v Q → Span R (suc l) (row R m E h) Q
       row-generates apart {Q} p =
           let e : m + (suc l - m) ≡ suc l = omega arith in
-          rw e at (vanish-span (suc l - m) Q (rw e (height-below R (p .height))) (p .finite) apart (λ s k. rw e (multiplicity-vanish L (ms s) (p .finite .0) (suc l) (a s) (v s) Q (p .multiplicity s k))))
+          rw e at (vanish-span (suc l - m) Q (rw e (height-below R (p .height))) (p .finite) apart
+          (λ s k. rw e (multiplicity-vanish L (ms s) (p .finite .0) (suc l) (a s) (v s) Q (p .multiplicity s k))))
 
       row-passes : (i : ℕ) → i < suc l → PassingEach R n ms l a v (row R m E h i)
       row-passes i k =
           let e : m + (suc l - m) ≡ suc l = omega arith in
-          let fin : Finite R (row R m E h i) = row-finite L m E h i (sumBelow n (λ s. ms s - i)) n (monic-factorsAt L n a (λ s. ms s - i) .rest) (λ j q. thr .short j (omega arith)) in
+          let fin : Finite R (row R m E h i) =
+          row-finite L m E h i (sumBelow n (λ s. ms s - i)) n (monic-factorsAt L n a (λ s. ms s - i) .rest)
+          (λ j q. thr .short j (omega arith)) in
           let tall : Height R (suc l) (row R m E h i) = λ j t q. row-height L m E h i j t (omega arith) in
           record {
             finite = fin;
             height = tall;
-            multiplicity = λ s q. vanish-multiplicity L (ms s) (fin .0) (suc l) (a s) (v s) (row R m E h i) (rw e at (span-vanish (suc l - m) (row R m E h i) (rw e (height-below R tall)) fin (rw e (span-row L i k)) s q));
+            multiplicity =
+                λ s q. vanish-multiplicity L (ms s) (fin .0) (suc l) (a s) (v s) (row R m E h i)
+                (rw e at (span-vanish (suc l - m) (row R m E h i) (rw e (height-below R tall)) fin (rw e (span-row L i k)) s q));
           }
 
       pub row-passing : {Q : Curve R} → Span R (suc l) (row R m E h) Q → PassingEach R n ms l a v Q
@@ -134,10 +144,12 @@ module _ {R : Ring} (L : RingLaws R) where
   unfolding row startRow
   start-is n m a h = ap (λ (E : ℕ → Seq R). row R m E h) (fun-ext (λ i. prod-pow (series L) n (m - i) (λ s. lin R (a s))))
 
-  pub start-passes : {n m l : ℕ} {a v : ℕ → R .Car} {h : Seq R} → Through R n a v h → m ≤ l → {Q : Curve R} → Span R (suc l) (startRow R m (locator R n a) h) Q → Passing R n m l a v Q
+  pub start-passes : {n m l : ℕ} {a v : ℕ → R .Car} {h : Seq R} → Through R n a v h → m ≤ l → {Q : Curve R}
+      → Span R (suc l) (startRow R m (locator R n a) h) Q → Passing R n m l a v Q
   start-passes {n} {m} {l} {a} {v} {h} thr ml c = each-passing (row-passing L thr (λ _. m) m (λ s k. omega arith) l ml (rw (start-is n m a h) c))
 
-pub start-generates : {F : Field} (Φ : FieldLaws F) {n m l : ℕ} {a v : ℕ → F .ring .Car} {h : Seq (F .ring)} → Distinct (F .ring) n a → Through (F .ring) n a v h → m ≤ l
+pub start-generates : {F : Field} (Φ : FieldLaws F) {n m l : ℕ} {a v : ℕ → F .ring .Car} {h : Seq (F .ring)} → Distinct (F .ring) n a
+    → Through (F .ring) n a v h → m ≤ l
     → {Q : Curve (F .ring)} → Passing (F .ring) n m l a v Q → Span (F .ring) (suc l) (startRow (F .ring) m (locator (F .ring) n a) h) Q
 start-generates Φ {n} {m} {l} {a} {v} {h} inj thr ml p =
     rw (start-is (Φ .ring) n m a h) at (row-generates (Φ .ring) thr (λ _. m) m (λ s k. omega arith) l ml (distinct-apart Φ n a inj) (passing-each p))

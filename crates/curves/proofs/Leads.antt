@@ -102,12 +102,14 @@ module _ (F : Field) (u : ℕ) where
 module _ (F : Field) (u : ℕ) (Q : Curve (F .ring)) where
   open Ring (F .ring) using (𝟘)
 
-  look-right : (w : ℕ) (more : Sought) (s : ℕ) → Under (F .ring) u w s Q → (Under (F .ring) u w zero Q → Right F u Q more) → Right F u Q (look F u w Q more s)
+  look-right : (w : ℕ) (more : Sought) (s : ℕ) → Under (F .ring) u w s Q → (Under (F .ring) u w zero Q → Right F u Q more)
+      → Right F u Q (look F u w Q more s)
   unfolding look pick
   look-right w more zero U k = k U
   look-right w more (suc s) U k = go (decLe (u * s) w) (F .same? (Q s (w - u * s)) 𝟘) (λ z. look-right w more s z k)
     where
-      go : (a : Dec (u * s ≤ w)) (b : Dec (Q s (w - u * s) ≡ 𝟘)) → (Under (F .ring) u w s Q → Right F u Q (look F u w Q more s)) → Right F u Q (pick a b (found w s) (look F u w Q more s))
+      go : (a : Dec (u * s ≤ w)) (b : Dec (Q s (w - u * s) ≡ 𝟘)) → (Under (F .ring) u w s Q → Right F u Q (look F u w Q more s))
+          → Right F u Q (pick a b (found w s) (look F u w Q more s))
       go (yes a) (yes b) ih = ih (under-step (F .ring) u w s Q U (λ i q. let r : i ≡ w - u * s = omega arith in rw r b))
       go (yes a) (no b) ih = record { degree = w - u * s; weight = omega arith; nonzero = b; rest = U }
       go (no a) (yes b) ih = ih (under-step (F .ring) u w s Q U (λ i q. absurd (omega arith)))
@@ -123,7 +125,8 @@ module _ (F : Field) (u : ℕ) (Q : Curve (F .ring)) where
       go j i le f (no q) = H j i (f (omega arith))
 
   -- a leading term by computation
-  pub lead-found : (h limit : ℕ) {w s : ℕ} → Height (F .ring) h Q → Under (F .ring) u limit zero Q → seek F u h Q limit ≡ found w s → Lead (F .ring) u w s Q
+  pub lead-found : (h limit : ℕ) {w s : ℕ} → Height (F .ring) h Q → Under (F .ring) u limit zero Q → seek F u h Q limit ≡ found w s
+      → Lead (F .ring) u w s Q
   lead-found h limit H U e = rw e at (seek-right h limit H U)
 
   -- a finite curve is zero or has a leading term

@@ -31,7 +31,8 @@ module _ {R : Ring} {u : ℕ} (rows : ℕ → Curve R) where
   lightest-one {w} p = record { inside = omega arith; lead = p; least = λ q y k x. lightest-last w 0 p (omega arith) q y (omega arith) x }
 
 module _ {R : Ring} {u : ℕ} {rows : ℕ → Curve R} {n i w v : ℕ} (x : Lightest R u n rows i w) (p : Lead R u v (suc n) (rows (suc n))) where
-  least-more : (j z : ℕ) → AtMost z j v (suc n) → ((q y : ℕ) → q ≤ n → Lead R u y q (rows q) → AtMost z j y q) → (q y : ℕ) → q ≤ suc n → Lead R u y q (rows q) → AtMost z j y q
+  least-more : (j z : ℕ) → AtMost z j v (suc n) → ((q y : ℕ) → q ≤ n → Lead R u y q (rows q) → AtMost z j y q) → (q y : ℕ) → q ≤ suc n
+      → Lead R u y q (rows q) → AtMost z j y q
   least-more j z top low q y m k = go (decLe q n)
     where
       go : Dec (q ≤ n) → AtMost z j y q
@@ -61,7 +62,8 @@ lightest-unique {i = i} {w} {j} {v} p q =
     (omega arith, omega arith)
 
 -- two smallest curves of a set weigh the same
-pub weight-unique : {R : Ring} {u : ℕ} {Member : Curve R → Type 0} {P Q : Curve R} (p : Smallest R u Member P) (q : Smallest R u Member Q) → p .weight ≡ q .weight
+pub weight-unique : {R : Ring} {u : ℕ} {Member : Curve R → Type 0} {P Q : Curve R} (p : Smallest R u Member P) (q : Smallest R u Member Q)
+    → p .weight ≡ q .weight
 weight-unique {P = P} {Q} p q =
     let a = p .least Q (q .member) (q .weight) (q .power) (q .lead) .0 in
     let b = q .least P (p .member) (p .weight) (p .power) (p .lead) .0 in
@@ -84,8 +86,15 @@ module _ {F : Field} (Φ : FieldLaws F) where
   monic-at u w s Q j i = let c = F .inv (Q s (w - u * s)) in xTimes-mono L c 0 Q j i ∙ ap (λ (x : Car). c ⊗ x) (delay-zero R (Q j) i)
 
   pub monic-lead : {u w s : ℕ} {Q : Curve R} → Lead R u w s Q → (p : Lead R u w s (monic F u w s Q)) × (monic F u w s Q s (p .degree) ≡ 𝟙)
-  monic-lead {u} {w} {s} {Q} p =
-      (record { degree = p .degree; weight = p .weight; nonzero = λ z. Φ .one≢zero (sym one ∙ z); rest = λ j i le f. monic-at u w s Q j i ∙ ap (λ (x : Car). c ⊗ x) (p .rest j i le f) ∙ mul-zero L c }, one)
+  monic-lead {u} {w} {s} {Q} p = (
+    record {
+      degree = p .degree;
+      weight = p .weight;
+      nonzero = λ z. Φ .one≢zero (sym one ∙ z);
+      rest = λ j i le f. monic-at u w s Q j i ∙ ap (λ (x : Car). c ⊗ x) (p .rest j i le f) ∙ mul-zero L c;
+    },
+    one,
+  )
     where
       c : Car
       c = F .inv (Q s (w - u * s))
@@ -94,7 +103,8 @@ module _ {F : Field} (Φ : FieldLaws F) where
       one =
           let pw = p .weight in
           let d : p .degree ≡ w - u * s = omega arith in
-          monic-at u w s Q s (p .degree) ∙ mul-comm L c (Q s (p .degree)) ∙ ap (λ n. Q s (p .degree) ⊗ F .inv (Q s n)) (sym d) ∙ Φ .inverse (Q s (p .degree)) (p .nonzero)
+          monic-at u w s Q s (p .degree) ∙ mul-comm L c (Q s (p .degree)) ∙ ap (λ n. Q s (p .degree) ⊗ F .inv (Q s n)) (sym d)
+          ∙ Φ .inverse (Q s (p .degree)) (p .nonzero)
 
   -- a curve made monic weighs the same, is zero where it was, and is as high
   pub monic-weight : {u w s v t : ℕ} {Q : Curve R} → Lead R u w s Q → Lead R u v t (monic F u w s Q) → v ≡ w
@@ -104,7 +114,8 @@ module _ {F : Field} (Φ : FieldLaws F) where
   monic-null u w s Q j i z = monic-at u w s Q j i ∙ ap (λ (x : Car). F .inv (Q s (w - u * s)) ⊗ x) z ∙ mul-zero L _
 
   null-monic : {u w s : ℕ} {Q : Curve R} → Lead R u w s Q → (j i : ℕ) → monic F u w s Q j i ≡ 𝟘 → Q j i ≡ 𝟘
-  null-monic {u} {w} {s} {Q} p j i z = no-zero-divisor Φ c (Q j i) (λ y. Φ .one≢zero (sym one ∙ ap (λ (t : Car). x ⊗ t) y ∙ mul-zero L x)) (sym (monic-at u w s Q j i) ∙ z)
+  null-monic {u} {w} {s} {Q} p j i z =
+      no-zero-divisor Φ c (Q j i) (λ y. Φ .one≢zero (sym one ∙ ap (λ (t : Car). x ⊗ t) y ∙ mul-zero L x)) (sym (monic-at u w s Q j i) ∙ z)
     where
       x : Car
       x = Q s (w - u * s)
@@ -165,7 +176,8 @@ module _ {F : Field} (Φ : FieldLaws F) where
     lightest-exists = lightest-to l (omega arith)
 
   -- a set with all differences, of curves that are zero or lead somewhere, has one smallest curve at most
-  pub smallest-unique : {u : ℕ} {Member : Curve R → Type 0} → ((P Q : Curve R) → Member P → Member Q → Member (P ⊞ ⊟ Q)) → ((Q : Curve R) → Member Q → ZeroOrLeads R u Q)
+  pub smallest-unique : {u : ℕ} {Member : Curve R → Type 0} → ((P Q : Curve R) → Member P → Member Q → Member (P ⊞ ⊟ Q))
+      → ((Q : Curve R) → Member Q → ZeroOrLeads R u Q)
       → {P Q : Curve R} → Smallest R u Member P → Smallest R u Member Q → P ≡ Q
   unfolding addS negS
   smallest-unique {u} {Member} minus leads {P} {Q} p q = go (leads (P ⊞ ⊟ Q) difference)
@@ -187,7 +199,8 @@ module _ {F : Field} (Φ : FieldLaws F) where
       under : Under R u (p .weight) (p .power) (P ⊞ ⊟ Q)
       under =
           under-step R u (p .weight) (p .power) (P ⊞ ⊟ Q)
-          (λ j i le f. ap₂ (λ (x y : Car). x ⊕ ⊖ y) (p .lead .rest j i le f) (let e = same .0 in let d = same .1 in q .lead .rest j i (omega arith) (λ x. let y = f (omega arith) in omega arith)) ∙ add-neg L 𝟘)
+          (λ j i le f. ap₂ (λ (x y : Car). x ⊕ ⊖ y) (p .lead .rest j i le f) (let e = same .0 in let d = same .1 in
+          q .lead .rest j i (omega arith) (λ x. let y = f (omega arith) in omega arith)) ∙ add-neg L 𝟘)
           (λ i x.
           let a = p .lead .weight in
           let b = q .lead .weight in
@@ -209,15 +222,18 @@ module _ {F : Field} (Φ : FieldLaws F) where
           absurd (omega arith)
 
   -- the curves that finished rows span have one
-  pub smallest-spanned : {u W l : ℕ} {rows : ℕ → Curve R} → Sound R u W l (suc l) rows → {P Q : Curve R} → Smallest R u (Span R (suc l) rows) P → Smallest R u (Span R (suc l) rows) Q → P ≡ Q
-  smallest-spanned {u} {l = l} {rows = rows} g = smallest-unique (λ P Q p q. span-add L p (span-neg L q)) (λ Q s. go Q (span-led Φ u rows (suc l) (own g) s))
+  pub smallest-spanned : {u W l : ℕ} {rows : ℕ → Curve R} → Sound R u W l (suc l) rows → {P Q : Curve R} → Smallest R u (Span R (suc l) rows) P
+      → Smallest R u (Span R (suc l) rows) Q → P ≡ Q
+  smallest-spanned {u} {l = l} {rows = rows} g =
+      smallest-unique (λ P Q p q. span-add L p (span-neg L q)) (λ Q s. go Q (span-led Φ u rows (suc l) (own g) s))
     where
       go : (Q : Curve R) → Led Φ u rows (λ t. t < suc l) Q → ZeroOrLeads R u Q
       go Q (inl z) = inl z
       go Q (inr (v, t, k, p, m)) = inr (v, t, p)
 
   -- of two sets with the same curves the smallest is the same
-  pub smallest-same : {u : ℕ} {Member Other : Curve R → Type 0} {P : Curve R} → ((Q : Curve R) → Member Q ↔ Other Q) → Smallest R u Member P → Smallest R u Other P
+  pub smallest-same : {u : ℕ} {Member Other : Curve R → Type 0} {P : Curve R} → ((Q : Curve R) → Member Q ↔ Other Q) → Smallest R u Member P
+      → Smallest R u Other P
   smallest-same {P = P} same p =
       record {
         member = same P .0 (p .member);
@@ -229,6 +245,7 @@ module _ {F : Field} (Φ : FieldLaws F) where
       }
 
   -- the work from fresh rows to its end: the lightest row made monic is the smallest of the curves that the rows at the start span
-  pub promised-smallest : {u W l : ℕ} {b : ℕ → ℕ} {start : ℕ → Curve R} {list : List ℕ} {o : Outcome F} → Promised F u W l b start list o → o .row ≡ suc l
+  pub promised-smallest : {u W l : ℕ} {b : ℕ → ℕ} {start : ℕ → Curve R} {list : List ℕ} {o : Outcome F} → Promised F u W l b start list o
+      → o .row ≡ suc l
       → {i w : ℕ} → Lightest R u l (o .rows) i w → Smallest R u (Span R (suc l) start) (monic F u w i (o .rows i))
   promised-smallest p e h = smallest-same (λ Q. let s = p .kept .same Q in (s .1, s .0)) (smallest-lightest (rw e at (p .kept .sound)) h)

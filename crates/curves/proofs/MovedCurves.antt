@@ -26,23 +26,27 @@ module _ {R : Ring} (L : RingLaws R) where
   infixl 70 _⊠_
   infix 75 ⊟_
   -- how many powers of x Q (x, y + h) may have
-  pub below-along : (M D N : ℕ) (Q : Curve R) (h : Seq R) → ((j : ℕ) → Below R M (Q j)) → Below R D h → (j : ℕ) → Below R (N * D + M) (shift (Series R) h N Q j)
+  pub below-along : (M D N : ℕ) (Q : Curve R) (h : Seq R) → ((j : ℕ) → Below R M (Q j)) → Below R D h → (j : ℕ)
+      → Below R (N * D + M) (shift (Series R) h N Q j)
   below-along M D zero Q h hQ hh j i l = ap (λ (P : Curve R). P j i) (shift-zero (Series R) h Q) ∙ zero-at R j i
   below-along M D (suc N) Q h hQ hh zero i l =
       let S : Curve R = shift (Series R) h N (tail (Series R) Q) in
       rw (shift-at-zero (series L) h N Q)
-      (below-add L {N = D + (N * D + M)} {f = Q 0} {g = h ⊠ S 0} (λ u k. hQ 0 u (omega arith)) (below-mul L D (N * D + M) h (S 0) hh (below-along M D N (tail (Series R) Q) h (λ j. hQ (suc j)) hh 0)) i (omega arith))
+      (below-add L {N = D + (N * D + M)} {f = Q 0} {g = h ⊠ S 0} (λ u k. hQ 0 u (omega arith))
+      (below-mul L D (N * D + M) h (S 0) hh (below-along M D N (tail (Series R) Q) h (λ j. hQ (suc j)) hh 0)) i (omega arith))
   below-along M D (suc N) Q h hQ hh (suc j) i l =
       let S : Curve R = shift (Series R) h N (tail (Series R) Q) in
       let ih : (j : ℕ) → Below R (N * D + M) (S j) = below-along M D N (tail (Series R) Q) h (λ j. hQ (suc j)) hh in
       rw (shift-at-suc (series L) h N Q j)
-      (below-add L {N = D + (N * D + M)} {f = S j} {g = h ⊠ S (suc j)} (λ u k. ih j u (omega arith)) (below-mul L D (N * D + M) h (S (suc j)) hh (ih (suc j))) i (omega arith))
+      (below-add L {N = D + (N * D + M)} {f = S j} {g = h ⊠ S (suc j)} (λ u k. ih j u (omega arith))
+      (below-mul L D (N * D + M) h (S (suc j)) hh (ih (suc j))) i (omega arith))
 
   -- x + a for x, after y + h for y and before
   shift-both : (a : R .Car) (M D N : ℕ) (Q : Curve R) (h : Seq R) → ((j : ℕ) → Below R M (Q j)) → Below R D h
       → (j : ℕ) → shift R a (N * D + M) (shift (Series R) h N Q j) ≡ shift (Series R) (shift R a D h) N (λ j. shift R a M (Q j)) j
   shift-both a M D zero Q h hQ hh j =
-      rw (shift-zero (Series R) h Q, shift-zero (Series R) (shift R a D h) (λ j. shift R a M (Q j)), zeroS-at (Series R) j) (shift-null L a (0 * D + M))
+      rw (shift-zero (Series R) h Q, shift-zero (Series R) (shift R a D h) (λ j. shift R a M (Q j)), zeroS-at (Series R) j)
+      (shift-null L a (0 * D + M))
   shift-both a M D (suc N) Q h hQ hh zero =
       let T : Curve R = tail (Series R) Q in
       let S : Curve R = shift (Series R) h N T in
@@ -78,12 +82,14 @@ module _ {R : Ring} (L : RingLaws R) where
       let S : Curve R = shift (Series R) g N (tail (Series R) P) in
       let ih : Vanish R (pred m) S = vanish-shift (pred m) N (tail (Series R) P) g (λ u t q. hP (suc u) t (omega arith)) hg in
       rw (shift-at-zero (series L) g N P)
-      (ord-add L {n = m} {f = P 0} {g = g ⊠ S 0} (λ t q. hP 0 t (omega arith)) (λ t q. ord-mul L 1 (pred m - 0) g (S 0) hg (ih 0) t (omega arith)) i (omega arith))
+      (ord-add L {n = m} {f = P 0} {g = g ⊠ S 0} (λ t q. hP 0 t (omega arith)) (λ t q. ord-mul L 1 (pred m - 0) g (S 0) hg (ih 0) t (omega arith)) i
+      (omega arith))
   vanish-shift m (suc N) P g hP hg (suc j) i l =
       let S : Curve R = shift (Series R) g N (tail (Series R) P) in
       let ih : Vanish R (pred m) S = vanish-shift (pred m) N (tail (Series R) P) g (λ u t q. hP (suc u) t (omega arith)) hg in
       rw (shift-at-suc (series L) g N P j)
-      (ord-add L {n = m - suc j} {f = S j} {g = g ⊠ S (suc j)} (λ t q. ih j t (omega arith)) (λ t q. ord-mul L 1 (pred m - suc j) g (S (suc j)) hg (ih (suc j)) t (omega arith)) i l)
+      (ord-add L {n = m - suc j} {f = S j} {g = g ⊠ S (suc j)} (λ t q. ih j t (omega arith))
+      (λ t q. ord-mul L 1 (pred m - suc j) g (S (suc j)) hg (ih (suc j)) t (omega arith)) i l)
 
   module _ {n : ℕ} {a v : ℕ → R .Car} {h : Seq R} (thr : Through R n a v h) (s : ℕ) (l : s < n) (N : ℕ) (Q : Curve R) (fin : Finite R Q) where
     abbrev P : Curve R
@@ -116,7 +122,10 @@ module _ {R : Ring} (L : RingLaws R) where
         ap (λ (f : Seq R). f i) (shift-both (a s) (fin .0) n N Q h (fin .1) (thr .short) j ∙ ap (λ (T : Curve R). T j) (sym there))
         ∙ vanish-shift m N (moved R (fin .0) N (a s) (v s) Q) g van low j i k
 
-    pub along-back : (m : ℕ) → Vanish R m (λ j. shift R (a s) (N * n + fin .0) (shift (Series R) h N Q j)) → Vanish R m (moved R (fin .0) N (a s) (v s) Q)
+    pub along-back : (m : ℕ) → Vanish R m (λ j. shift R (a s) (N * n + fin .0) (shift (Series R) h N Q j))
+        → Vanish R m (moved R (fin .0) N (a s) (v s) Q)
     along-back m van j i k =
         ap (λ (T : Curve R). T j i) (sym back)
-        ∙ vanish-shift m N (shift (Series R) η N P) (⊟ g) (λ u t q. ap (λ (f : Seq R). f t) (sym (shift-both (a s) (fin .0) n N Q h (fin .1) (thr .short) u)) ∙ van u t q) (ord-neg L {n = 1} {f = g} low) j i k
+        ∙ vanish-shift m N (shift (Series R) η N P) (⊟ g)
+        (λ u t q. ap (λ (f : Seq R). f t) (sym (shift-both (a s) (fin .0) n N Q h (fin .1) (thr .short) u)) ∙ van u t q)
+        (ord-neg L {n = 1} {f = g} low) j i k

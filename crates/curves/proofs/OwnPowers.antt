@@ -78,7 +78,14 @@ module _ {F : Field} (Φ : FieldLaws F) where
     led-add n P Q (inr (v, t, k, p, m)) (inr (v′, t′, k′, q, m′)) = go (decLe v v′)
       where
         go : Dec (v ≤ v′) → Led (λ t. t < suc n) (P ⊞ Q)
-        go (yes h) = inr (v′, t′, omega arith, rw (add-comm (series (series L)) P Q) (lead-add q (under-mono R u v (suc t) v′ t′ P h (λ x. omega arith) (p .rest))), m′)
+        go (yes h) =
+            inr (
+              v′,
+              t′,
+              omega arith,
+              rw (add-comm (series (series L)) P Q) (lead-add q (under-mono R u v (suc t) v′ t′ P h (λ x. omega arith) (p .rest))),
+              m′,
+            )
         go (no h) = inr (v, t, omega arith, lead-add p (under-mono R u v′ (suc t′) v t Q (omega arith) (λ x. absurd (omega arith)) (q .rest)), m)
 
     led-xTimes : (n N : ℕ) (q : Seq R) → Below R N q → LeadsAt R u n (rows n) → Led (λ t. t ≡ n) (xTimes R q (rows n))
@@ -88,11 +95,13 @@ module _ {F : Field} (Φ : FieldLaws F) where
         go (inl z) = inl (rw (z, xTimes-zero L (rows n)) zero-zero)
         go (inr (d, l)) = inr (d + w, n, refl, lead-xTimes l p, λ x k. let e = lead-unique k p .0 in omega arith)
 
-    led-sum : (n : ℕ) (q : ℕ → Seq R) → ((i : ℕ) → (N : ℕ) × Below R N (q i)) → ((i : ℕ) → i < n → LeadsAt R u i (rows i)) → Led (λ t. t < n) (sum (Series (Series R)) n (λ i. xTimes R (q i) (rows i)))
+    led-sum : (n : ℕ) (q : ℕ → Seq R) → ((i : ℕ) → (N : ℕ) × Below R N (q i)) → ((i : ℕ) → i < n → LeadsAt R u i (rows i))
+        → Led (λ t. t < n) (sum (Series (Series R)) n (λ i. xTimes R (q i) (rows i)))
     led-sum zero q h own = inl (rw (sum-zero (Series (Series R)) (λ i. xTimes R (q i) (rows i))) zero-zero)
     led-sum (suc n) q h own =
         rw (sum-suc (Series (Series R)) n (λ i. xTimes R (q i) (rows i)))
-        (led-add n (sum (Series (Series R)) n (λ i. xTimes R (q i) (rows i))) (xTimes R (q n) (rows n)) (led-sum n q h (λ i l. own i (omega arith))) (led-xTimes n (h n .0) (q n) (h n .1) (own n (omega arith))))
+        (led-add n (sum (Series (Series R)) n (λ i. xTimes R (q i) (rows i))) (xTimes R (q n) (rows n)) (led-sum n q h (λ i l. own i (omega arith)))
+        (led-xTimes n (h n .0) (q n) (h n .1) (own n (omega arith))))
 
     module _ (n : ℕ) (own : (i : ℕ) → i < n → LeadsAt R u i (rows i)) {Q : Curve R} (s : Span R n rows Q) where
       pub span-led : Led (λ t. t < n) Q

@@ -27,13 +27,15 @@ pub record Begins (F : Field) (u W l : ℕ) (b : ℕ → ℕ) (Member : Curve (F
 
 module _ {F : Field} (Φ : FieldLaws F) {u W l : ℕ} {b : ℕ → ℕ} {Member : Curve (F .ring) → Type 0} where
   -- only the rows up to l matter
-  pub begins-same : {rows new : ℕ → Curve (F .ring)} → ((i : ℕ) → i ≤ l → new i ≡ rows i) → Begins F u W l b Member rows → Begins F u W l b Member new
+  pub begins-same : {rows new : ℕ → Curve (F .ring)} → ((i : ℕ) → i ≤ l → new i ≡ rows i) → Begins F u W l b Member rows
+      → Begins F u W l b Member new
   begins-same {rows} {new} same g =
       record {
         fresh = λ i h. rw (same i h) (g .fresh i h);
         generates = λ Q. (
           λ s. g .generates Q .0 (span-trans (Φ .ring) (suc l) new (λ i h. rw (same i (omega arith)) (span-row (Φ .ring) i h)) s),
-          λ p. span-trans (Φ .ring) (suc l) rows (λ i h. rw (same i (omega arith)) at (span-row (Φ .ring) {n = suc l} {rows = new} i h)) (g .generates Q .1 p),
+          λ p. span-trans (Φ .ring) (suc l) rows (λ i h. rw (same i (omega arith)) at (span-row (Φ .ring) {n = suc l} {rows = new} i h))
+              (g .generates Q .1 p),
         );
       }
 
@@ -60,13 +62,17 @@ module _ {F : Field} (Φ : FieldLaws F) {u W l : ℕ} {b : ℕ → ℕ} {Member 
       pub run-lightest : (i : ℕ) × (w : ℕ) × Lightest (F .ring) u l (o .rows) i w
       run-lightest = lightest-exists Φ sound
 
-module _ {F : Field} (Φ : FieldLaws F) {n k m l : ℕ} {a v : ℕ → F .ring .Car} (points : Distinct (F .ring) n a) (low : 0 < k) (degree : k < n) (ml : m ≤ l) where
+module _ {F : Field} (Φ : FieldLaws F) {n k m l : ℕ} {a v : ℕ → F .ring .Car} (points : Distinct (F .ring) n a) (low : 0 < k) (degree : k < n)
+    (ml : m ≤ l) where
   pub begins-start : {h : Seq (F .ring)} → Through (F .ring) n a v h
-      → Begins F (k - 1) (m * n + (l - m) * (k - 1)) l (λ r. min r m * (n - k)) (Passing (F .ring) n m l a v) (startRow (F .ring) m (locator (F .ring) n a) h)
-  begins-start thr = record { fresh = start-fresh Φ m thr k l low degree ml; generates = λ Q. (start-passes (Φ .ring) thr ml, start-generates Φ points thr ml) }
+      → Begins F (k - 1) (m * n + (l - m) * (k - 1)) l (λ r. min r m * (n - k)) (Passing (F .ring) n m l a v)
+      (startRow (F .ring) m (locator (F .ring) n a) h)
+  begins-start thr =
+      record { fresh = start-fresh Φ m thr k l low degree ml; generates = λ Q. (start-passes (Φ .ring) thr ml, start-generates Φ points thr ml) }
 
   -- the curve of demand 2 exists, and it is the only one
-  pub passing-curve-exists : (Q : Curve (F .ring)) × Smallest (F .ring) (k - 1) (Passing (F .ring) n m l a v) Q × ((P : Curve (F .ring)) → Smallest (F .ring) (k - 1) (Passing (F .ring) n m l a v) P → P ≡ Q)
+  pub passing-curve-exists : (Q : Curve (F .ring)) × Smallest (F .ring) (k - 1) (Passing (F .ring) n m l a v) Q
+      × ((P : Curve (F .ring)) → Smallest (F .ring) (k - 1) (Passing (F .ring) n m l a v) P → P ≡ Q)
   unfolding allowed
   passing-curve-exists =
       let (h, thr) = interpolate Φ n a v points in

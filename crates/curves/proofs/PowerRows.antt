@@ -62,7 +62,8 @@ module _ {R : Ring} (L : RingLaws R) where
   light-pow : (u w k : ℕ) (P : Curve R) → Lighter R u (suc w) 0 P → Lighter R u (suc (k * w)) 0 (pow (Series (Series R)) P k)
   light-pow u w zero P h j i l = ap (λ (T : Curve R). T j i) (pow-zero (Series (Series R)) P) ∙ light-one u j i (omega arith)
   light-pow u w (suc k) P h j i l =
-      ap (λ (T : Curve R). T j i) (pow-suc (Series (Series R)) P k) ∙ light-mul u (suc w) (k * w) 0 P (pow (Series (Series R)) P k) h (light-pow u w k P h) j i (omega arith)
+      ap (λ (T : Curve R). T j i) (pow-suc (Series (Series R)) P k)
+      ∙ light-mul u (suc w) (k * w) 0 P (pow (Series (Series R)) P k) h (light-pow u w k P h) j i (omega arith)
 
   light-const : (u d : ℕ) (f : Seq R) → Below R (suc d) f → Lighter R u (suc d) 0 (constS (Series R) f)
   unfolding constS consS zeroS
@@ -90,7 +91,8 @@ module _ {R : Ring} (L : RingLaws R) where
     unfolding row
     row-light u le j t l =
         light-mul u (suc (d + min i m * w)) ((i - m) * u) 0 _ _
-        (λ j t l. light-mul u (suc d) (min i m * w) 0 _ _ (light-const u d (E i) e) (light-pow u w (min i m) (lin (Series R) h) (light-lin u w h le b)) j t (omega arith))
+        (λ j t l. light-mul u (suc d) (min i m * w) 0 _ _ (light-const u d (E i) e)
+        (light-pow u w (min i m) (lin (Series R) h) (light-lin u w h le b)) j t (omega arith))
         (light-pow u u (i - m) (xS (Series R)) (light-y u)) j t (omega arith)
 
     pub row-finite : Finite R (row R m E h i)
@@ -111,10 +113,13 @@ module _ {R : Ring} (L : RingLaws R) where
     rest-monic : Monic (Series R) i rest
     rest-monic =
         monic-same LL (omega arith) refl
-        (monic-mul LL (min i m * 1) ((i - m) * 1) _ _ (monic-pow LL 1 (min i m) (lin (Series R) h) (monic-lin LL h)) (monic-pow LL 1 (i - m) (xS (Series R)) (monic-x LL)))
+        (monic-mul LL (min i m * 1) ((i - m) * 1) _ _ (monic-pow LL 1 (min i m) (lin (Series R) h) (monic-lin LL h))
+        (monic-pow LL 1 (i - m) (xS (Series R)) (monic-x LL)))
 
     pub row-top : row R m E h i i ≡ E i
     row-top = ap (λ (Q : Curve R). Q i) row-is ∙ scaleS-at (Series R) (E i) rest i ∙ ap (mulS R (E i)) (rest-monic .top) ∙ mul-one LL (E i)
 
     pub row-height : Height R (suc i) (row R m E h i)
-    row-height = below-height R (λ j l. ap (λ (Q : Curve R). Q j) row-is ∙ scaleS-at (Series R) (E i) rest j ∙ ap (mulS R (E i)) (rest-monic .rest j l) ∙ mul-zero LL (E i))
+    row-height =
+        below-height R (λ j l. ap (λ (Q : Curve R). Q j) row-is ∙ scaleS-at (Series R) (E i) rest j ∙ ap (mulS R (E i)) (rest-monic .rest j l)
+        ∙ mul-zero LL (E i))

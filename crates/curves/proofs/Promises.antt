@@ -43,7 +43,8 @@ module _ (F : Field) where
 
   pub data Run (u l : ℕ) : List ℕ → (ℕ → Curve (F .ring)) → ℕ → Outcome F → Type 0 where
     none : {rows : ℕ → Curve (F .ring)} {r : ℕ} → Run u l [] rows r (stops F 0 rows r)
-    turn : {a : ℕ} {list : List ℕ} {rows : ℕ → Curve (F .ring)} {r : ℕ} {o p : Outcome F} → Turn F u l a rows r o → Run u l list (o .rows) (o .row) p → Run u l (a ∷ list) rows r (after o p)
+    turn : {a : ℕ} {list : List ℕ} {rows : ℕ → Curve (F .ring)} {r : ℕ} {o p : Outcome F} → Turn F u l a rows r o
+        → Run u l list (o .rows) (o .row) p → Run u l (a ∷ list) rows r (after o p)
 
   pub record Promised (u W l : ℕ) (b : ℕ → ℕ) (start : ℕ → Curve (F .ring)) (list : List ℕ) (o : Outcome F) : Type 0 where
     pub number : o .number ≡ 0

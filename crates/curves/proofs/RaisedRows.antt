@@ -46,7 +46,15 @@ module _ {R : Ring} (L : RingLaws R) where
 
   pub raised-suc : (h : Seq R) (Q : Curve R) (j e : ℕ) → (lin S h ⊗ Q) (suc j) e ≡ R .plus (R .neg (mulS R h (Q (suc j)) e)) (Q j e)
   raised-suc h Q j e =
-      rw (← xPlus-neg S h, mulS-suc S (xPlus S (negS R h)) Q j, xPlus-zero S (negS R h), xPlus-tail S (negS R h), one-mul (series (series L)) Q, neg-mul (series L) h (Q (suc j)), addS-at R _ (Q j) e)
+      rw (
+        ← xPlus-neg S h,
+        mulS-suc S (xPlus S (negS R h)) Q j,
+        xPlus-zero S (negS R h),
+        xPlus-tail S (negS R h),
+        one-mul (series (series L)) Q,
+        neg-mul (series L) h (Q (suc j)),
+        addS-at R _ (Q j) e,
+      )
       (rw (negS-at R (mulS R h (Q (suc j))) e))
 
   -- a coefficient of (y - h) Q depends on no higher ones
@@ -54,13 +62,24 @@ module _ {R : Ring} (L : RingLaws R) where
   raised-low h Q P zero e a =
       rw (raised-zero h Q e, raised-zero h P e, product-low R h (Q zero) (P zero) e (λ k l. a zero k (omega arith) l))
   raised-low h Q P (suc j) e a =
-      rw (raised-suc h Q j e, raised-suc h P j e, product-low R h (Q (suc j)) (P (suc j)) e (λ k l. a (suc j) k (omega arith) l), a j e (omega arith) (omega arith))
+      rw (
+        raised-suc h Q j e,
+        raised-suc h P j e,
+        product-low R h (Q (suc j)) (P (suc j)) e (λ k l. a (suc j) k (omega arith) l),
+        a j e (omega arith) (omega arith),
+      )
 
   pub raised-height : (h : Seq R) (Q : Curve R) (n : ℕ) → Height R n Q → Height R (suc n) (lin S h ⊗ Q)
   raised-height h Q n a zero e k = absurd (omega arith)
   raised-height h Q n a (suc j) e k =
       raised-suc h Q j e
-      ∙ rw (product-low R h (Q (suc j)) (zeroS R) e (λ i l. a (suc j) i (omega arith) ∙ sym (zeroS-at R i)), mul-zero (series L) h, zeroS-at R e, a j e (omega arith), neg-zero)
+      ∙ rw (
+        product-low R h (Q (suc j)) (zeroS R) e (λ i l. a (suc j) i (omega arith) ∙ sym (zeroS-at R i)),
+        mul-zero (series L) h,
+        zeroS-at R e,
+        a j e (omega arith),
+        neg-zero,
+      )
       (add-zero L _)
 
   module _ (e h : Seq R) where
@@ -91,4 +110,5 @@ module _ {R : Ring} (L : RingLaws R) where
           let b : suc i - m ≡ suc (i - m) = omega arith in
           let c : m - suc i ≡ m - i = omega arith in
           rw (a, b, c, pow-suc C (xS S) (i - m), ← mul-x (series L) (startRow R m e h i))
-          (ring (series (series L)) (constS S (pow S e (m - i)) ∷ pow C (lin S h) (min i m) ∷ xS S ∷ pow C (xS S) (i - m) ∷ []) (search readings depth 25) tt)
+          (ring (series (series L)) (constS S (pow S e (m - i)) ∷ pow C (lin S h) (min i m) ∷ xS S ∷ pow C (xS S) (i - m) ∷ [])
+          (search readings depth 25) tt)

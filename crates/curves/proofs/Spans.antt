@@ -62,7 +62,12 @@ module _ {R : Ring} (L : RingLaws R) where
   xTimes-over : (p : Seq R) (n : ℕ) (f : ℕ → Curve R) → xTimes R p (sum (Series (Series R)) n f) ≡ sum (Series (Series R)) n (λ i. xTimes R p (f i))
   xTimes-over p zero f = rw (sum-zero (Series (Series R)) f, sum-zero (Series (Series R)) (λ i. xTimes R p (f i))) (xTimes-null p)
   xTimes-over p (suc n) f =
-      rw (sum-suc (Series (Series R)) n f, sum-suc (Series (Series R)) n (λ i. xTimes R p (f i)), xTimes-plus p (sum (Series (Series R)) n f) (f n), xTimes-over p n f)
+      rw (
+        sum-suc (Series (Series R)) n f,
+        sum-suc (Series (Series R)) n (λ i. xTimes R p (f i)),
+        xTimes-plus p (sum (Series (Series R)) n f) (f n),
+        xTimes-over p n f,
+      )
 
   -- a set that has zero and that sums and multiples by polynomials do not leave has, with some curves, all that they span
   module _ {Member : Curve R → Type 0} (null : Member 𝟘₂) (plus : (P Q : Curve R) → Member P → Member Q → Member (P ⊞ Q))
@@ -72,7 +77,9 @@ module _ {R : Ring} (L : RingLaws R) where
     sum-closed (suc m) f h = rw (sum-suc (Series (Series R)) m f) (plus _ _ (sum-closed m f (λ i l. h i (omega arith))) (h m (omega arith)))
 
     pub span-closed : (m : ℕ) (rows : ℕ → Curve R) {Q : Curve R} → ((i : ℕ) → i < m → Member (rows i)) → Span R m rows Q → Member Q
-    span-closed m rows h q = rw (q .is) (sum-closed m (λ i. xTimes R (q .factor i) (rows i)) (λ i l. scaled (q .finite i .0) (q .factor i) (rows i) (q .finite i .1) (h i l)))
+    span-closed m rows h q =
+        rw (q .is) (sum-closed m (λ i. xTimes R (q .factor i) (rows i))
+        (λ i l. scaled (q .finite i .0) (q .factor i) (rows i) (q .finite i .1) (h i l)))
 
   module _ {n : ℕ} {rows : ℕ → Curve R} where
     pub span-zero : Span R n rows 𝟘₂
@@ -89,12 +96,16 @@ module _ {R : Ring} (L : RingLaws R) where
           factor = λ i. addS R (p .factor i) (q .factor i);
           finite = λ i.
               let a = p .finite i in
-              let b = q .finite i in
-              (a .0 + b .0, below-add L {N = a .0 + b .0} {f = p .factor i} {g = q .factor i} (λ x y. a .1 x (omega arith)) (λ x y. b .1 x (omega arith)));
+              let b = q .finite i in (
+                a .0 + b .0,
+                below-add L {N = a .0 + b .0} {f = p .factor i} {g = q .factor i} (λ x y. a .1 x (omega arith)) (λ x y. b .1 x
+                    (omega arith)),
+              );
           is =
               ap₂ _⊞_ (p .is) (q .is)
               ∙ sym
-              (sum-cong (series (series L)) n (λ i. xTimes R (addS R (p .factor i) (q .factor i)) (rows i)) (λ i. xTimes R (p .factor i) (rows i) ⊞ xTimes R (q .factor i) (rows i)) (λ i l. xTimes-sum (p .factor i) (q .factor i) (rows i))
+              (sum-cong (series (series L)) n (λ i. xTimes R (addS R (p .factor i) (q .factor i)) (rows i))
+              (λ i. xTimes R (p .factor i) (rows i) ⊞ xTimes R (q .factor i) (rows i)) (λ i l. xTimes-sum (p .factor i) (q .factor i) (rows i))
               ∙ sum-add (series (series L)) n (λ i. xTimes R (p .factor i) (rows i)) (λ i. xTimes R (q .factor i) (rows i)));
         }
 
@@ -106,7 +117,8 @@ module _ {R : Ring} (L : RingLaws R) where
           is =
               ap (xTimes R f) (p .is)
               ∙ xTimes-over f n (λ i. xTimes R (p .factor i) (rows i))
-              ∙ sym (sum-cong (series (series L)) n (λ i. xTimes R (mulS R f (p .factor i)) (rows i)) (λ i. xTimes R f (xTimes R (p .factor i) (rows i))) (λ i l. xTimes-xTimes f (p .factor i) (rows i)));
+              ∙ sym (sum-cong (series (series L)) n (λ i. xTimes R (mulS R f (p .factor i)) (rows i))
+              (λ i. xTimes R f (xTimes R (p .factor i) (rows i))) (λ i l. xTimes-xTimes f (p .factor i) (rows i)));
         }
 
     pub span-neg : {Q : Curve R} → Span R n rows Q → Span R n rows (⊟ Q)
@@ -120,7 +132,8 @@ module _ {R : Ring} (L : RingLaws R) where
         is = fun-ext (λ j. fun-ext (at j))
 
     -- what is in the span of members is in the span
-    pub span-trans : (m : ℕ) (others : ℕ → Curve R) {Q : Curve R} → ((i : ℕ) → i < m → Span R n rows (others i)) → Span R m others Q → Span R n rows Q
+    pub span-trans : (m : ℕ) (others : ℕ → Curve R) {Q : Curve R} → ((i : ℕ) → i < m → Span R n rows (others i)) → Span R m others Q
+        → Span R n rows Q
     span-trans = span-closed span-zero (λ P Q. span-add {P = P} {Q = Q}) (λ N f P. span-xTimes N f {P = P})
 
     pub span-row : (k : ℕ) → k < n → Span R n rows (rows k)
@@ -130,7 +143,8 @@ module _ {R : Ring} (L : RingLaws R) where
           finite = λ i. go i (ℕ-discrete i k);
           is =
               sym
-              (sum-single (series (series L)) n k (λ i. xTimes R (put k (oneS R) (λ j. zeroS R) i) (rows i)) l (λ i m x. rw (put-other k (oneS R) (λ j. zeroS R) i x) (xTimes-zero (rows i)))
+              (sum-single (series (series L)) n k (λ i. xTimes R (put k (oneS R) (λ j. zeroS R) i) (rows i)) l
+              (λ i m x. rw (put-other k (oneS R) (λ j. zeroS R) i x) (xTimes-zero (rows i)))
               ∙ rw (put-same k (oneS R) (λ j. zeroS R)) (xTimes-one (rows k)));
         }
       where
@@ -140,7 +154,8 @@ module _ {R : Ring} (L : RingLaws R) where
 
     pub span-cross : (a : ℕ) {P : Curve R} (c : Car) (b : ℕ) {Q : Curve R} → Span R n rows P → Span R n rows Q → Span R n rows (cross R a P c b Q)
     unfolding cross
-    span-cross a c b p q = span-add (span-xTimes (suc a) (mono R 𝟙 a) (mono-below L 𝟙 a) p) (span-xTimes (suc b) (mono R (⊖ c) b) (mono-below L (⊖ c) b) q)
+    span-cross a c b p q =
+        span-add (span-xTimes (suc a) (mono R 𝟙 a) (mono-below L 𝟙 a) p) (span-xTimes (suc b) (mono R (⊖ c) b) (mono-below L (⊖ c) b) q)
 
     -- P from P - c x^b Q and Q
     pub span-uncross-left : (P : Curve R) (c : Car) (b : ℕ) (Q : Curve R) → Span R n rows (cross R 0 P c b Q) → Span R n rows Q → Span R n rows P
@@ -156,7 +171,8 @@ module _ {R : Ring} (L : RingLaws R) where
         is = fun-ext (λ j. fun-ext (at j))
 
     -- Q from x^a P - c Q and P, where c d = 1
-    pub span-uncross-right : (a : ℕ) (P : Curve R) (c d : Car) (Q : Curve R) → c ⊗ d ≡ 𝟙 → Span R n rows (cross R a P c 0 Q) → Span R n rows P → Span R n rows Q
+    pub span-uncross-right : (a : ℕ) (P : Curve R) (c d : Car) (Q : Curve R) → c ⊗ d ≡ 𝟙 → Span R n rows (cross R a P c 0 Q) → Span R n rows P
+        → Span R n rows Q
     unfolding addS
     span-uncross-right a P c d Q e p q =
         rw is (span-add (span-xTimes (suc a) (mono R d a) (mono-below L d a) q) (span-xTimes 1 (mono R (⊖ d) 0) (mono-below L (⊖ d) 0) p))
@@ -166,7 +182,15 @@ module _ {R : Ring} (L : RingLaws R) where
 
         at : (j i : ℕ) → Q j i ≡ xTimes R (mono R d a) P j i ⊕ xTimes R (mono R (⊖ d) 0) (cross R a P c 0 Q) j i
         at j i =
-            rw (xTimes-mono L d a P j i, xTimes-mono L (⊖ d) 0 (cross R a P c 0 Q) j i, delay-zero R (cross R a P c 0 Q j) i, cross-at L a P c 0 Q j i, delay-zero R (Q j) i, collect (delay R a (P j) i) (Q j i), e)
+            rw (
+              xTimes-mono L d a P j i,
+              xTimes-mono L (⊖ d) 0 (cross R a P c 0 Q) j i,
+              delay-zero R (cross R a P c 0 Q j) i,
+              cross-at L a P c 0 Q j i,
+              delay-zero R (Q j) i,
+              collect (delay R a (P j) i) (Q j i),
+              e,
+            )
             (sym (one-mul L (Q j i)))
 
         is : Q ≡ xTimes R (mono R d a) P ⊞ xTimes R (mono R (⊖ d) 0) (cross R a P c 0 Q)

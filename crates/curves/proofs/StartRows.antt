@@ -92,8 +92,12 @@ module _ {F : Field} (Φ : FieldLaws F) where
         (mul-one (series (series L)) _ ∙ mul-one (series (series L)) _)
 
     -- a curve of demand 2 always exists, as e^m is one
-    pub start-exists : (l : ℕ) → m ≤ l → Passing R n m l a v (constS (Series R) (pow (Series R) (locator R n a) m)) × (Zero R (constS (Series R) (pow (Series R) (locator R n a) m)) → ⊥)
-    start-exists l ml = (rw start-zero at (start-passes L thr ml (span-row L 0 (omega arith))), λ z. let p = start-first 0 in p .nonzero (ap (λ (Q : Curve R). Q 0 (p .degree)) start-zero ∙ z 0 (p .degree)))
+    pub start-exists : (l : ℕ) → m ≤ l → Passing R n m l a v (constS (Series R) (pow (Series R) (locator R n a) m))
+        × (Zero R (constS (Series R) (pow (Series R) (locator R n a) m)) → ⊥)
+    start-exists l ml = (
+      rw start-zero at (start-passes L thr ml (span-row L 0 (omega arith))),
+      λ z. let p = start-first 0 in p .nonzero (ap (λ (Q : Curve R). Q 0 (p .degree)) start-zero ∙ z 0 (p .degree)),
+    )
 
     module _ (k l : ℕ) (pos : 0 < k) (kn : k < n) (ml : m ≤ l) where
       abbrev W : ℕ
@@ -111,7 +115,8 @@ module _ {F : Field} (Φ : FieldLaws F) where
 
       pub start-fresh : (i : ℕ) → i ≤ l → Fresh R (k - 1) W (min i m * (n - k)) i (start i)
       unfolding startRow row
-      start-fresh i il = rw same at (row-fresh m e^ h i ((m - i) * n) (monic-e i) (n - 1) (k - 1) W (λ t q. thr .short t (omega arith)) (omega arith) (fits i il))
+      start-fresh i il =
+          rw same at (row-fresh m e^ h i ((m - i) * n) (monic-e i) (n - 1) (k - 1) W (λ t q. thr .short t (omega arith)) (omega arith) (fits i il))
         where
           same : n - 1 - (k - 1) ≡ n - k
           same = omega arith
@@ -124,4 +129,5 @@ pub smallest-weight : {F : Field} (Φ : FieldLaws F) {n m l u : ℕ} {a v : ℕ 
     → (S : Smallest (F .ring) u (Passing (F .ring) n m l a v) Q) → S .weight ≤ m * n
 smallest-weight {F} Φ {n} {m} {l} {u} {a} {v} points ml S =
     let h = interpolate Φ n a v points in
-    S .least (startRow (F .ring) m (locator (F .ring) n a) (h .0) 0) (start-passes (Φ .ring) (h .1) ml (span-row (Φ .ring) 0 (omega arith))) (m * n) 0 (start-first Φ m (h .1) u) .0
+    S .least (startRow (F .ring) m (locator (F .ring) n a) (h .0) 0) (start-passes (Φ .ring) (h .1) ml (span-row (Φ .ring) 0 (omega arith)))
+    (m * n) 0 (start-first Φ m (h .1) u) .0

@@ -15,10 +15,12 @@ use Rattle.curves.proofs.Updates.{update-led, update-same}
 use Rattle.curves.proofs.Entry.{sound-rises, sound-below, sound-update}
 
 module _ {F : Field} (Φ : FieldLaws F) {u W l : ℕ} where
-  kept-still : (number : ℕ) {rows : ℕ → Curve (F .ring)} {r : ℕ} → r ≤ suc l → Sound (F .ring) u W l r rows → Preserved F u W l rows (stops F number rows r)
+  kept-still : (number : ℕ) {rows : ℕ → Curve (F .ring)} {r : ℕ} → r ≤ suc l → Sound (F .ring) u W l r rows
+      → Preserved F u W l rows (stops F number rows r)
   kept-still number {rows = rows} h g = record { inside = h; sound = g; same = same-refl (F .ring) (suc l) rows }
 
-  pub turn-keeps : {a : ℕ} {rows : ℕ → Curve (F .ring)} {r : ℕ} {o : Outcome F} → r ≤ suc l → Sound (F .ring) u W l r rows → Turn F u l a rows r o → Preserved F u W l rows o
+  pub turn-keeps : {a : ℕ} {rows : ℕ → Curve (F .ring)} {r : ℕ} {o : Outcome F} → r ≤ suc l → Sound (F .ring) u W l r rows → Turn F u l a rows r o
+      → Preserved F u W l rows o
   turn-keeps h g (finished k) = kept-still 0 h g
   turn-keeps h g (rises w k x t) = turn-keeps (omega arith) (sound-rises g (w, x)) t
   turn-keeps h g (pauses w s k x n) = kept-still 0 h g
@@ -41,7 +43,8 @@ record Rest (F : Field) (u W l : ℕ) (rows : ℕ → Curve (F .ring)) (r : ℕ)
 module _ {F : Field} (Φ : FieldLaws F) {u W l : ℕ} where
   rest : (n r : ℕ) (rows : ℕ → Curve (F .ring)) → r + n ≡ suc l → Sound (F .ring) u W l r rows → Rest F u W l rows r
   rest zero r rows e g = record { row = r; inside = omega arith; sound = g; due = inl (omega arith); back = λ a o t. t }
-  rest (suc n) r rows e g = go (lead? F u (rows r) (suc r) (suc W) (g .low r (omega arith) (omega arith)) (g .light r (omega arith))) (rest n (suc r) rows (omega arith))
+  rest (suc n) r rows e g =
+      go (lead? F u (rows r) (suc r) (suc W) (g .low r (omega arith) (omega arith)) (g .light r (omega arith))) (rest n (suc r) rows (omega arith))
     where
       go : ZeroOrLeads (F .ring) u (rows r) → (Sound (F .ring) u W l (suc r) rows → Rest F u W l rows (suc r)) → Rest F u W l rows r
       go (inl z) more = absurd (g .nonzero r (omega arith) z)
@@ -51,7 +54,13 @@ module _ {F : Field} (Φ : FieldLaws F) {u W l : ℕ} where
           two (yes q) =
               let y : Lead (F .ring) u w r (rows r) = rw q at x in
               let t = more (sound-rises g (w, y)) in
-              record { row = t .row; inside = t .inside; sound = t .sound; due = t .due; back = λ a o k. rises {r = r} w (omega arith) y (t .back a o k) }
+              record {
+                row = t .row;
+                inside = t .inside;
+                sound = t .sound;
+                due = t .due;
+                back = λ a o k. rises {r = r} w (omega arith) y (t .back a o k);
+              }
           two (no q) =
               let k = lead-within x (suc r) (g .low r (omega arith) (omega arith)) in
               let y = g .own s (omega arith) (omega arith) in
@@ -67,21 +76,26 @@ module _ {F : Field} (Φ : FieldLaws F) {u W l : ℕ} where
   pub turn-exists : (a r : ℕ) (rows : ℕ → Curve (F .ring)) → r ≤ suc l → Sound (F .ring) u W l r rows → (o : Outcome F) × Turn F u l a rows r o
   turn-exists zero r rows h g = let t = rest (suc l - r) r rows (omega arith) g in go t (t .due)
     where
-      go : (t : Rest F u W l rows r) → (l < t .row) ⊎ ((w : ℕ) × (s : ℕ) × (v : ℕ) × Due (F .ring) u l (t .row) rows w s v) → (o : Outcome F) × Turn F u l zero rows r o
+      go : (t : Rest F u W l rows r) → (l < t .row) ⊎ ((w : ℕ) × (s : ℕ) × (v : ℕ) × Due (F .ring) u l (t .row) rows w s v)
+          → (o : Outcome F) × Turn F u l zero rows r o
       go t (inl k) = (stops F 0 rows (t .row), t .back zero _ (finished k))
       go t (inr (w, s, v, d)) = (stops F 0 rows (t .row), t .back zero _ (pauses w s (d .inside) (d .lead) (d .other)))
   turn-exists (suc a) r rows h g = let t = rest (suc l - r) r rows (omega arith) g in go t (t .due) (turn-exists a)
     where
       go : (t : Rest F u W l rows r) → (l < t .row) ⊎ ((w : ℕ) × (s : ℕ) × (v : ℕ) × Due (F .ring) u l (t .row) rows w s v)
-          → ((r : ℕ) (rows : ℕ → Curve (F .ring)) → r ≤ suc l → Sound (F .ring) u W l r rows → (o : Outcome F) × Turn F u l a rows r o) → (o : Outcome F) × Turn F u l (suc a) rows r o
+          → ((r : ℕ) (rows : ℕ → Curve (F .ring)) → r ≤ suc l → Sound (F .ring) u W l r rows → (o : Outcome F) × Turn F u l a rows r o)
+          → (o : Outcome F) × Turn F u l (suc a) rows r o
       go t (inl k) more = (stops F 0 rows (t .row), t .back (suc a) _ (finished k))
-      go t (inr (w, s, v, d)) more = two (update-led Φ d (suc (t .row)) (t .sound .low (t .row) (d .inside) (omega arith)) (let k = sound-below (t .sound) d in let i = d .inside in t .sound .low s (omega arith) (omega arith)))
+      go t (inr (w, s, v, d)) more =
+          two (update-led Φ d (suc (t .row)) (t .sound .low (t .row) (d .inside) (omega arith)) (let k = sound-below (t .sound) d in
+          let i = d .inside in t .sound .low s (omega arith) (omega arith)))
         where
           new : ℕ → Curve (F .ring)
           new = update F u (t .row) w s v rows
 
           made : (Zero (F .ring) (new (t .row)) → ⊥) → (o : Outcome F) × Turn F u l (suc a) rows r o
-          made n = let m = more (t .row) new (t .inside) (sound-update Φ (t .sound) d n) in (counted F (m .0), t .back (suc a) _ (updates w s v d n (m .1)))
+          made n = let m = more (t .row) new (t .inside) (sound-update Φ (t .sound) d n) in
+              (counted F (m .0), t .back (suc a) _ (updates w s v d n (m .1)))
 
           two : ZeroOrLeads (F .ring) u (new (t .row)) → (o : Outcome F) × Turn F u l (suc a) rows r o
           two (inl z) = (stops F 11 rows (t .row), t .back (suc a) _ (halts w s v d z))

@@ -60,7 +60,8 @@ module _ {F : Field} (Φ : FieldLaws F) where
     unfolding update
     update-s = go (decLe v w)
       where
-        go : (t : Dec (v ≤ w)) → Swapped R w v (rows r) (rows s) (put r (cross R (v - w) (rows r) c (w - v) (rows s)) (put s (choose t (rows s) (rows r)) rows) s)
+        go : (t : Dec (v ≤ w))
+            → Swapped R w v (rows r) (rows s) (put r (cross R (v - w) (rows r) c (w - v) (rows s)) (put s (choose t (rows s) (rows r)) rows) s)
         go (yes h) = inl (h, put-other r _ _ s (d .other) ∙ put-same s _ rows)
         go (no h) = inr (omega arith, put-other r _ _ s (d .other) ∙ put-same s _ rows)
 
@@ -84,7 +85,9 @@ module _ {F : Field} (Φ : FieldLaws F) where
     update-smaller p = lead-smaller p (max w v) s update-under
 
     pub update-led : (h : ℕ) → Height R h (rows r) → Height R h (rows s) → ZeroOrLeads R u (new r)
-    update-led h p q = lead? F u (new r) h (suc (max w v)) (update-height h p q) (under-mono R u (max w v) s (suc (max w v)) zero (new r) (omega arith) (λ x. absurd (omega arith)) update-under)
+    update-led h p q =
+        lead? F u (new r) h (suc (max w v)) (update-height h p q)
+        (under-mono R u (max w v) s (suc (max w v)) zero (new r) (omega arith) (λ x. absurd (omega arith)) update-under)
 
     -- the new rows are in the span of the old ones, and the old ones in that of the new ones
     module _ (n : ℕ) (rn : r < n) (sn : s < n) where
@@ -114,7 +117,9 @@ module _ {F : Field} (Φ : FieldLaws F) where
           go (yes e) t (inl (h, x)) = rw e (span-uncross-left L (rows r) c (w - v) (rows s) (at-r 0 (w - v) (omega arith) refl) (at-s (rows s) x))
           go (yes e) t (inr (h, x)) = rw e (at-s (rows r) x)
           go (no e) (yes t) (inl (h, x)) = rw t (at-s (rows s) x)
-          go (no e) (yes t) (inr (h, x)) = rw t (span-uncross-right L (v - w) (rows r) c (F .inv c) (rows s) (Φ .inverse c c≢0) (at-r (v - w) 0 refl (omega arith)) (at-s (rows r) x))
+          go (no e) (yes t) (inr (h, x)) =
+              rw t (span-uncross-right L (v - w) (rows r) c (F .inv c) (rows s) (Φ .inverse c c≢0) (at-r (v - w) 0 refl (omega arith))
+              (at-s (rows r) x))
 
       pub update-same : Same R n rows new
       update-same Q = (span-trans L n rows old-spanned, span-trans L n new new-spanned)

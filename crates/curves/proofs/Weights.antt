@@ -17,7 +17,8 @@ module _ {R : Ring} (L : RingLaws R) where
   -- `Under` with 0 for the power of y: the weight is below W
   pub under-shift : (u W N : ℕ) (Q : Curve R) (g : Seq R) → Below R (suc u) g → Under R u W 0 Q → Under R u W 0 (shift (Series R) g N Q)
   under-shift u W zero Q g short light j e l q = ap (λ (P : Curve R). P j e) (shift-zero (Series R) g Q) ∙ zero-at R j e
-  under-shift u W (suc N) Q g short light j e l q = go j e l (under-shift u (W - u) N (tail (Series R) Q) g short (λ j t k z. light (suc j) t (omega arith) (λ _. zero-le)))
+  under-shift u W (suc N) Q g short light j e l q =
+      go j e l (under-shift u (W - u) N (tail (Series R) Q) g short (λ j t k z. light (suc j) t (omega arith) (λ _. zero-le)))
     where
       S : Curve R
       S = shift (Series R) g N (tail (Series R) Q)
@@ -25,7 +26,8 @@ module _ {R : Ring} (L : RingLaws R) where
       go : (j e : ℕ) → W ≤ e + u * j → Under R u (W - u) 0 S → shift (Series R) g (suc N) Q j e ≡ R .𝟘
       go zero e l ih =
           rw (shift-at-zero (series L) g N Q)
-          (below-add L {N = W} {f = Q 0} {g = g ⊠ S 0} (λ t k. light 0 t (omega arith) (λ _. zero-le)) (below-product L u W g (S 0) short (λ t k. ih 0 t (omega arith) (λ _. zero-le))) e (omega arith))
+          (below-add L {N = W} {f = Q 0} {g = g ⊠ S 0} (λ t k. light 0 t (omega arith) (λ _. zero-le))
+          (below-product L u W g (S 0) short (λ t k. ih 0 t (omega arith) (λ _. zero-le))) e (omega arith))
       go (suc j) e l ih =
           rw (shift-at-suc (series L) g N Q j)
           (below-add L {N = W - u * suc j} {f = S j} {g = g ⊠ S (suc j)}
@@ -34,4 +36,5 @@ module _ {R : Ring} (L : RingLaws R) where
           e (omega arith))
 
   pub below-graph : (u W N : ℕ) (Q : Curve R) (g : Seq R) → Below R (suc u) g → Under R u W 0 Q → Below R W (value (Series R) g N Q)
-  below-graph u W N Q g short light = below-same L (sym (shift-value (series L) g N Q)) (λ e l. under-shift u W N Q g short light 0 e (omega arith) (λ _. zero-le))
+  below-graph u W N Q g short light =
+      below-same L (sym (shift-value (series L) g N Q)) (λ e l. under-shift u W N Q g short light 0 e (omega arith) (λ _. zero-le))

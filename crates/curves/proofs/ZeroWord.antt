@@ -53,7 +53,8 @@ module _ {F : Field} (Φ : FieldLaws F) where
 
         divides : Divides R N (e^ t) (P t)
         divides = rw (prod-pow (series L) n (m - t) (λ s. lin R (a s)), shift-none (series L) (suc l) P (height-below R (mem .height))) at
-            (along-divides L thr (λ _. m) (suc l) P (mem .finite) (distinct-apart Φ n a inj) (λ s k. multiplicity-vanish L m (mem .finite .0) (suc l) (a s) (R .𝟘) P (mem .multiplicity s k)) t)
+            (along-divides L thr (λ _. m) (suc l) P (mem .finite) (distinct-apart Φ n a inj)
+            (λ s k. multiplicity-vanish L m (mem .finite .0) (suc l) (a s) (R .𝟘) P (mem .multiplicity s k)) t)
 
     -- y^m is row m of the start
     start-is : startRow R m (locator R n a) (zeroS R) m ≡ y^ m
@@ -84,7 +85,13 @@ module _ {F : Field} (Φ : FieldLaws F) where
           member = rw start-is at (start-passes L thr ml (span-row L m (omega arith)));
           weight = u * m;
           power = m;
-          lead = record { degree = 0; weight = omega arith; nonzero = λ z. Φ .one≢zero (sym top ∙ z); rest = λ j t le over. rest j t over le (ℕ-discrete j m) };
+          lead =
+              record {
+                degree = 0;
+                weight = omega arith;
+                nonzero = λ z. Φ .one≢zero (sym top ∙ z);
+                rest = λ j t le over. rest j t over le (ℕ-discrete j m);
+              };
           monic = top;
           least = λ P mem v t p. least v t (p .degree) (p .weight) (member-degree P mem v t p) (decLe m t);
         }

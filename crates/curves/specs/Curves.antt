@@ -77,7 +77,8 @@ module _ (R : Ring) where
 
   unfoldable pub shifted : ℕ → ℕ → R .Car → R .Car → Curve → ℕ → ℕ → R .Car
   shifted M N a b Q i j =
-      sum R N (λ s. multiple R (binomial s j) (R .times (pow R b (s - j)) (sum R M (λ r. multiple R (binomial r i) (R .times (pow R a (r - i)) (Q s r))))))
+      sum R N
+      (λ s. multiple R (binomial s j) (R .times (pow R b (s - j)) (sum R M (λ r. multiple R (binomial r i) (R .times (pow R a (r - i)) (Q s r))))))
 
   abbrev pub Multiplicity : ℕ → ℕ → ℕ → R .Car → R .Car → Curve → Type 0
   Multiplicity m M N a b Q = (i j : ℕ) → i + j < m → shifted M N a b Q i j ≡ R .𝟘

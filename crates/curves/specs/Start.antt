@@ -13,7 +13,8 @@ module _ (R : Ring) where
   infixl 70 _⊗_
   unfoldable pub startRow : ℕ → Seq R → Seq R → ℕ → Curve R
   startRow m e h i =
-      constS (Series R) (pow (Series R) e (m - i)) ⊗ pow (Series (Series R)) (lin (Series R) h) (min i m) ⊗ pow (Series (Series R)) (xS (Series R)) (i - m)
+      constS (Series R) (pow (Series R) e (m - i)) ⊗ pow (Series (Series R)) (lin (Series R) h) (min i m)
+      ⊗ pow (Series (Series R)) (xS (Series R)) (i - m)
 
 unfoldable pub total : ℕ → (ℕ → ℕ) → ℕ
 total zero f = 0

@@ -48,7 +48,8 @@ module _ (F : Field) where
   -- rows 0 to l; 11 is the number of the update that would make row r zero and is not made
   pub data Turn (u l : ℕ) : ℕ → (ℕ → Curve (F .ring)) → ℕ → Outcome → Type 0 where
     finished : {a : ℕ} {rows : ℕ → Curve (F .ring)} {r : ℕ} → l < r → Turn u l a rows r (stops 0 rows r)
-    rises : {a : ℕ} {rows : ℕ → Curve (F .ring)} {r : ℕ} {o : Outcome} (w : ℕ) → r ≤ l → Lead (F .ring) u w r (rows r) → Turn u l a rows (suc r) o → Turn u l a rows r o
+    rises : {a : ℕ} {rows : ℕ → Curve (F .ring)} {r : ℕ} {o : Outcome} (w : ℕ) → r ≤ l → Lead (F .ring) u w r (rows r) → Turn u l a rows (suc r) o
+        → Turn u l a rows r o
     pauses : {rows : ℕ → Curve (F .ring)} {r : ℕ} (w s : ℕ) → r ≤ l → Lead (F .ring) u w s (rows r) → s ≢ r → Turn u l zero rows r (stops 0 rows r)
     updates : {a : ℕ} {rows : ℕ → Curve (F .ring)} {r : ℕ} {o : Outcome} (w s v : ℕ) → Due (F .ring) u l r rows w s v
         → (Zero (F .ring) (update u r w s v rows r) → ⊥) → Turn u l a (update u r w s v rows) r o → Turn u l (suc a) rows r (counted o)

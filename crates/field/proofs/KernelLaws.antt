@@ -63,9 +63,11 @@ module _ {p c to from len : ℕ} {xs ys : List ℕ} (a : Subtracts p c to from l
   pub source-below : getD ys (from + i) 0 < p
   source-below = rw source-kept (a .source .below i h)
 
-  pub subtracted-more : {v : ℕ} → v ≡ (getD ys (to + i) 0 + (p - c) * getD ys (from + i) 0) % p → set ys (to + i) v ≡ subtracted p c to from (i + 1) xs
+  pub subtracted-more : {v : ℕ} → v ≡ (getD ys (to + i) 0 + (p - c) * getD ys (from + i) 0) % p
+      → set ys (to + i) v ≡ subtracted p c to from (i + 1) xs
   subtracted-more {v} d =
-      let w : v ≡ less p c to from xs i = d ∙ rw (target-kept, source-kept) (sym (minus-times-mod p (getD xs (to + i) 0) (getD xs (from + i) 0) (a .factor))) in
+      let w : v ≡ less p c to from xs i =
+      d ∙ rw (target-kept, source-kept) (sym (minus-times-mod p (getD xs (to + i) 0) (getD xs (from + i) 0) (a .factor))) in
       rw (add-one, subtracted-suc p c to from xs i, ← e, ← w)
 
 module _ (p c at : ℕ) (xs : List ℕ) where
@@ -113,7 +115,8 @@ module _ {p c at len : ℕ} {xs ys : List ℕ} (a : Scales p c at len xs) (i : �
       rw (add-one, scaled-suc p c at xs i, ← e, ← w)
 
 -- bytes below p stay below p, if those in a region come to be so and the others are kept
-below-keeps : {p : ℕ} (at len : ℕ) (xs ys : List ℕ) → ((q : ℕ) → (q < at) ⊎ (at + len ≤ q) → getD ys q 0 ≡ getD xs q 0) → ((i : ℕ) → i < len → getD ys (at + i) 0 < p) → (q : ℕ) → getD xs q 0 < p → getD ys q 0 < p
+below-keeps : {p : ℕ} (at len : ℕ) (xs ys : List ℕ) → ((q : ℕ) → (q < at) ⊎ (at + len ≤ q) → getD ys q 0 ≡ getD xs q 0)
+    → ((i : ℕ) → i < len → getD ys (at + i) 0 < p) → (q : ℕ) → getD xs q 0 < p → getD ys q 0 < p
 below-keeps {p} at len xs ys same new q b = go (decLt q at) (decLt q (at + len))
   where
     go : Dec (q < at) → Dec (q < at + len) → getD ys q 0 < p
@@ -121,9 +124,13 @@ below-keeps {p} at len xs ys same new q b = go (decLt q at) (decLt q (at + len))
     go (no h) (yes k) = let i : at + (q - at) ≡ q = omega arith in rw i at (new (q - at) (omega arith))
     go (no h) (no k) = rw (same q (inr (omega arith))) b
 
-pub subtracted-keeps : {p : ℕ} → Listed p → (c to from len : ℕ) (xs : List ℕ) → to + len ≤ length xs → (q : ℕ) → getD xs q 0 < p → getD (subtracted p c to from len xs) q 0 < p
+pub subtracted-keeps : {p : ℕ} → Listed p → (c to from len : ℕ) (xs : List ℕ) → to + len ≤ length xs → (q : ℕ) → getD xs q 0 < p
+    → getD (subtracted p c to from len xs) q 0 < p
 subtracted-keeps {p} l c to from len xs room =
-    below-keeps to len xs (subtracted p c to from len xs) (subtracted-outside p c to from xs len) (λ i k. subtracted-below p c to from xs len i room k l)
+    below-keeps to len xs (subtracted p c to from len xs) (subtracted-outside p c to from xs len)
+    (λ i k. subtracted-below p c to from xs len i room k l)
 
-pub scaled-keeps : {p : ℕ} → Listed p → (c at len : ℕ) (xs : List ℕ) → at + len ≤ length xs → (q : ℕ) → getD xs q 0 < p → getD (scaled p c at len xs) q 0 < p
-scaled-keeps {p} l c at len xs room = below-keeps at len xs (scaled p c at len xs) (scaled-outside p c at xs len) (λ i k. scaled-below p c at xs len i room k l)
+pub scaled-keeps : {p : ℕ} → Listed p → (c at len : ℕ) (xs : List ℕ) → at + len ≤ length xs → (q : ℕ) → getD xs q 0 < p
+    → getD (scaled p c at len xs) q 0 < p
+scaled-keeps {p} l c at len xs room =
+    below-keeps at len xs (scaled p c at len xs) (scaled-outside p c at xs len) (λ i k. scaled-below p c at xs len i room k l)

@@ -6,7 +6,8 @@ use native.Mathlib.Omega.{arith}
 use Rattle.field.specs.Symbols.{Listed, symbol, sumOf, productOf, negativeOf, inverseOf}
 use Rattle.field.specs.Operations.{plusBytes, minusBytes, timesBytes, negByte, invByte}
 use Rattle.field.proofs.RingLaws.{neg-mul}
-use Rattle.field.proofs.SymbolLaws.{mod-mul, mul-mod, byte-symbol, symbol-byte, symbol-plus, symbol-times, symbol-opposite, symbols-ring, byte-below}
+use Rattle.field.proofs.SymbolLaws.{mod-mul, mul-mod, byte-symbol, symbol-byte, symbol-plus, symbol-times, symbol-opposite, symbols-ring}
+use Rattle.field.proofs.SymbolLaws.{byte-below}
 
 module _ (p : ℕ) where
   -- as symbols
@@ -51,7 +52,15 @@ module _ (p : ℕ) where
   pub minus-times-mod : {c : ℕ} (a b : ℕ) → c < p → minusBytes p a (timesBytes p c b) ≡ (a + (p - c) * b) % p
   unfolding minusBytes
   minus-times-mod {c} a b h =
-      rw (← byte-symbol p (a + (p - c) * b), symbol-plus, symbol-times, symbol-opposite p h, minusBytes, symbol-timesBytes, neg-mul (symbols-ring p (omega arith)) (symbol p c) (symbol p b))
+      rw (
+        ← byte-symbol p (a + (p - c) * b),
+        symbol-plus,
+        symbol-times,
+        symbol-opposite p h,
+        minusBytes,
+        symbol-timesBytes,
+        neg-mul (symbols-ring p (omega arith)) (symbol p c) (symbol p b),
+      )
 
 -- every operation gives a symbol's byte
 module _ {p : ℕ} (l : Listed p) where

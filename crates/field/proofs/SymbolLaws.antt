@@ -4,11 +4,13 @@ use mathlib.Core.Logic.{_≢_, ⊎-elim}
 use mathlib.Core.Bool.{Bool, true}
 use mathlib.Core.HLevel.{hedberg}
 use Prim.Native.Nat.{ℕ, _+_, _-_, _*_, _/_, _%_, _<_}
-use native.Mathlib.Nat.{add-assoc, add-comm, add-zero, mul-comm, mul-assoc, mul-one, mul-add, add-mul, mod-lt, mod-eq-of-lt, mod-add-mod, add-mod-mod, mod-self, zero-mod, div-add-mod, mul-add-mod-self-left}
+use native.Mathlib.Nat.{add-assoc, add-comm, add-zero, mul-comm, mul-assoc, mul-one, mul-add, add-mul, mod-lt, mod-eq-of-lt, mod-add-mod}
+use native.Mathlib.Nat.{add-mod-mod, mod-self, zero-mod, div-add-mod, mul-add-mod-self-left}
 use native.Mathlib.Omega.{arith}
 use lib.Dec.{T, eqb, eqb→eq}
 use Rattle.field.specs.Field.{RingLaws, FieldLaws}
-use Rattle.field.specs.Symbols.{or, listed, Listed, Element, symbol, same-byte, inverseNumber, sumOf, productOf, negativeOf, inverseOf, sameSymbol, symbols}
+use Rattle.field.specs.Symbols.{or, listed, Listed, Element, symbol, same-byte, inverseNumber, sumOf, productOf, negativeOf, inverseOf}
+use Rattle.field.specs.Symbols.{sameSymbol, symbols}
 use Rattle.field.proofs.FieldLaws.{cancel}
 use Rattle.field.proofs.Tests.{all, all-at, or-cases, or-right}
 
@@ -37,8 +39,10 @@ is-listed {p} e =
     let t : T (listed p) = rw e tt in
     record {
       listed = t;
-      small = at-listed (λ p. p < 32) (omega arith) (omega arith) (omega arith) (omega arith) (omega arith) (omega arith) (omega arith) (omega arith) (omega arith) (omega arith) p t;
-      large = at-listed (λ p. 2 < p) (omega arith) (omega arith) (omega arith) (omega arith) (omega arith) (omega arith) (omega arith) (omega arith) (omega arith) (omega arith) p t;
+      small = at-listed (λ p. p < 32) (omega arith) (omega arith) (omega arith) (omega arith) (omega arith) (omega arith) (omega arith)
+          (omega arith) (omega arith) (omega arith) p t;
+      large = at-listed (λ p. 2 < p) (omega arith) (omega arith) (omega arith) (omega arith) (omega arith) (omega arith) (omega arith) (omega arith)
+          (omega arith) (omega arith) p t;
     }
 
 -- numbers to symbols and back

@@ -68,7 +68,8 @@ module _ (q : Request) where
     pub holds : HoldsCurve (shapeFor q) bytes (monic (symbols (q .p)) (q .k - 1) weight row (left (startFor h) row))
     pub top : getD bytes (q .l * slot (shapeFor q) + 0) 0 ≢ 0
 
-module _ {q : Request} {lent : List ℕ} (known : Accepted (q .p) (q .points) (q .word) (q .k) (q .m) (q .l) lent) {made row weight : ℕ} {bytes : List ℕ} (z : Worked q made row weight bytes) where
+module _ {q : Request} {lent : List ℕ} (known : Accepted (q .p) (q .points) (q .word) (q .k) (q .m) (q .l) lent) {made row weight : ℕ}
+    {bytes : List ℕ} (z : Worked q made row weight bytes) where
   abbrev start : ℕ → Curve (ringFor q)
   start = startFor q (z .h)
 
@@ -88,14 +89,16 @@ module _ {q : Request} {lent : List ℕ} (known : Accepted (q .p) (q .points) (q
       (s, lead-unique (s .lead) (monic-lead Φ (light .lead) .0) .0)
 
 -- bytes that hold a curve begin with its bytes
-curve-bytes : (S : Shape) (Q : Curve (symbols (S .p) .ring)) (xs bytes : List ℕ) → curveBytes S ≤ length xs → length bytes ≡ curveBytes S → HoldsCurve S xs Q → HoldsCurve S bytes Q
+curve-bytes : (S : Shape) (Q : Curve (symbols (S .p) .ring)) (xs bytes : List ℕ) → curveBytes S ≤ length xs → length bytes ≡ curveBytes S
+    → HoldsCurve S xs Q → HoldsCurve S bytes Q
     → take (curveBytes S) xs ≡ bytes
 curve-bytes S Q xs bytes room long a b =
     let l = length-take-le (curveBytes S) xs room in
     ext-getD 0 (take (curveBytes S) xs) bytes (omega arith)
     (λ s k.
     let i = in-curve S {q = s} (omega arith) in
-    getD-take (curveBytes S) xs s 0 (omega arith) ∙ rw (i .is) (a (i .power) (i .degree) (i .low) (i .short) ∙ sym (b (i .power) (i .degree) (i .low) (i .short))))
+    getD-take (curveBytes S) xs s 0 (omega arith)
+    ∙ rw (i .is) (a (i .power) (i .degree) (i .low) (i .short) ∙ sym (b (i .power) (i .degree) (i .low) (i .short))))
 
 module _ {q : Request} (c : Calls q) (ok : c .start .number ≡ 0) where
   begun : Begun q (c .lent) (c .rows) (c .start)
@@ -111,7 +114,8 @@ module _ {q : Request} (c : Calls q) (ok : c .start .number ≡ 0) where
   calls-go : Goes (noteFor q 1) (c .allowance) (c .rows) (c .new) (c .turn)
   calls-go = go (rw (c .starts .note ok) at (c .turns)) (demand-3 q (started begun) .accepted (c .allowance) (c .new) (c .turn) (c .turns))
     where
-      go : HasTurned (noteFor q 1) (c .allowance) (c .rows) (c .new) (c .turn) → c .turn .number ≡ 0 → Goes (noteFor q 1) (c .allowance) (c .rows) (c .new) (c .turn)
+      go : HasTurned (noteFor q 1) (c .allowance) (c .rows) (c .new) (c .turn) → c .turn .number ≡ 0
+          → Goes (noteFor q 1) (c .allowance) (c .rows) (c .new) (c .turn)
       go t z = two (ℕ-discrete (t .entry) 0)
         where
           two : Dec (t .entry ≡ 0) → Goes (noteFor q 1) (c .allowance) (c .rows) (c .new) (c .turn)
@@ -123,12 +127,16 @@ module _ {q : Request} (c : Calls q) (ok : c .start .number ≡ 0) where
     rows = rowsOf (shapeFor q) (c .rows)
 
     fresh : (i : ℕ) → i ≤ q .l → FreshRow q i (startFor q (z .h) i)
-    fresh = let low = calls-accepted .low in start-fresh (Φ calls-accepted z) (q .m) (z .through) (q .k) (q .l) (omega arith) (calls-accepted .degree) (calls-accepted .heights .order)
+    fresh = let low = calls-accepted .low in
+        start-fresh (Φ calls-accepted z) (q .m) (z .through) (q .k) (q .l) (omega arith) (calls-accepted .degree) (calls-accepted .heights .order)
 
     at-start : AtStart q (z .h) rows
-    at-start i k = holds-row (shapeFor q) (c .rows) k (startFor q (z .h) i) (λ j e. c .starts .rows ok (z .h) (z .through) i j e k) (λ j e x. fresh i k .height j e (omega arith)) (fresh i k .within)
+    at-start i k =
+        holds-row (shapeFor q) (c .rows) k (startFor q (z .h) i) (λ j e. c .starts .rows ok (z .h) (z .through) i j e k)
+        (λ j e x. fresh i k .height j e (omega arith)) (fresh i k .within)
 
-    worked-turn : Turn (symbols (q .p)) (q .k - 1) (q .l) (c .allowance) rows 1 (record { number = 0; rows = z .left rows; row = suc (q .l); updates = made })
+    worked-turn : Turn (symbols (q .p)) (q .k - 1) (q .l) (c .allowance) rows 1
+        (record { number = 0; rows = z .left rows; row = suc (q .l); updates = made })
     worked-turn = z .turn (c .allowance) (c .enough) rows at-start
 
     outcome : calls-go .outcome ≡ record { number = 0; rows = z .left rows; row = suc (q .l); updates = made }
@@ -151,7 +159,8 @@ module _ {q : Request} (c : Calls q) (ok : c .start .number ≡ 0) where
 
         left : rowsOf (shapeFor q) (c .new) ≡ z .left rows
         left =
-            holds-flat (shapeFor q) (c .new) (z .left rows) (rw outcome at (calls-go .rows)) (turn-flat (Φ calls-accepted z) sound worked-turn (rowsOf-flat (shapeFor q) (c .rows)))
+            holds-flat (shapeFor q) (c .new) (z .left rows) (rw outcome at (calls-go .rows))
+            (turn-flat (Φ calls-accepted z) sound worked-turn (rowsOf-flat (shapeFor q) (c .rows)))
             (turn-keeps (Φ calls-accepted z) (omega arith) sound worked-turn .sound .light)
 
     abbrev smallest : Smallest (ringFor q) (q .k - 1) (Member q) (curveFor calls-accepted z)
@@ -172,6 +181,10 @@ module _ {q : Request} (c : Calls q) (ok : c .start .number ≡ 0) where
         record {
           start = started-same ok (c .starts .note ok);
           turn = turned;
-          finish = finished-same (calls-hand .done) (calls-hand .weight ∙ weight-unique (calls-hand .smallest) smallest ∙ worked-smallest calls-accepted z .1) (height-unique _ (rw same at (calls-hand .height)) height);
-          curve = let r = c .curve-room in let l = c .finishes .rest .long in curve-bytes (shapeFor q) (curveFor calls-accepted z) (c .curve) bytes (omega arith) (z .long) (rw same at (calls-hand .bytes)) (z .holds);
+          finish =
+              finished-same (calls-hand .done) (calls-hand .weight ∙ weight-unique (calls-hand .smallest) smallest
+              ∙ worked-smallest calls-accepted z .1) (height-unique _ (rw same at (calls-hand .height)) height);
+          curve = let r = c .curve-room in let l = c .finishes .rest .long in
+              curve-bytes (shapeFor q) (curveFor calls-accepted z) (c .curve) bytes (omega arith) (z .long) (rw same at (calls-hand .bytes))
+              (z .holds);
         }

@@ -37,7 +37,8 @@ abbrev pub distinct : List ℕ → Bool
 distinct xs = all (length xs) (λ j. all j (λ i. not (eqb (getD xs i 0) (getD xs j 0))))
 
 abbrev pub values : List ℕ → List ℕ → List ℕ → Bool
-values points word hs = all (length points) (λ s. eqb (value (symbols 7 .ring) (symbolsOf 7 points s) (length points) (symbolsOf 7 hs) .byte) (symbolsOf 7 word s .byte))
+values points word hs =
+    all (length points) (λ s. eqb (value (symbols 7 .ring) (symbolsOf 7 points s) (length points) (symbolsOf 7 hs) .byte) (symbolsOf 7 word s .byte))
 
 abbrev same : (S : Shape) → Curve (symbols (S .p) .ring) → List ℕ → ℕ → ℕ → Bool
 same S Q bytes j e = eqb (getD bytes (j * slot S + e) 0) (Q j e .byte)
@@ -51,7 +52,8 @@ all-below xs t i h = ltb→lt _ _ (all-at _ _ t i h)
 pub all-different : (xs : List ℕ) → T (distinct xs) → Repeated xs → ⊥
 all-different xs t r =
     let row = all-at _ _ t (r .second) (r .inside) in
-    T-not (eqb (getD xs (r .first) 0) (getD xs (r .second) 0)) (all-at _ _ row (r .first) (r .apart)) (rw (r .same) (eqb-refl (getD xs (r .second) 0)))
+    T-not (eqb (getD xs (r .first) 0) (getD xs (r .second) 0)) (all-at _ _ row (r .first) (r .apart))
+    (rw (r .same) (eqb-refl (getD xs (r .second) 0)))
 
 pub through : (points word hs : List ℕ) → length hs ≡ length points → T (values points word hs)
     → Through (symbols 7 .ring) (length points) (symbolsOf 7 points) (symbolsOf 7 word) (symbolsOf 7 hs)
@@ -59,12 +61,20 @@ through points word hs long t =
     record { short = λ i l. ap (symbol 7) (List·getD-eq-default hs 0 (omega arith)); hits = λ s l. same-byte 7 (eqb→eq _ _ (all-at _ _ t s l)) }
 
 pub holds-curve : (S : Shape) (Q : Curve (symbols (S .p) .ring)) (bytes : List ℕ) → T (spelt S Q bytes) → HoldsCurve S bytes Q
-holds-curve S Q bytes t j e h k = eqb→eq _ _ (all-at (slot S) (same S Q bytes j) (all-at (suc (S .l)) (λ j. all (slot S) (same S Q bytes j)) t j (omega arith)) e (omega arith))
+holds-curve S Q bytes t j e h k =
+    eqb→eq _ _ (all-at (slot S) (same S Q bytes j) (all-at (suc (S .l)) (λ j. all (slot S) (same S Q bytes j)) t j (omega arith)) e (omega arith))
 
 -- a word at the points 1, 2, 3 is in order
 pub at-places : (word : List ℕ) → length word ≡ 3 → T (small word) → Places 7 three word
 at-places word long below =
-    record { size = seven; count = omega arith; same = long; points-below = all-below three tt; word-below = all-below word below; different = all-different three tt }
+    record {
+      size = seven;
+      count = omega arith;
+      same = long;
+      points-below = all-below three tt;
+      word-below = all-below word below;
+      different = all-different three tt;
+    }
 
 pub three-distinct : Distinct (symbols 7 .ring) 3 (symbolsOf 7 three)
 three-distinct = places-distinct (at-places three refl tt)

@@ -55,7 +55,8 @@ unfolding symbol
 nobody g want =
     let same : g ≡ h = h-is g .0 (record {
       short = λ i l. want .degree i (omega arith);
-      hits = λ s l. value-more (seven-laws .ring) (symbolsOf 7 three s) 2 3 g (want .degree) (omega arith) ∙ agreements-all task g 3 (want .agrees) s l;
+      hits = λ s l. value-more (seven-laws .ring) (symbolsOf 7 three s) 2 3 g (want .degree) (omega arith)
+          ∙ agreements-all task g 3 (want .agrees) s l;
     }) in
     let e : _≡_ {A = ℕ} 4 0 = ap (λ (x : Element 7). x .byte) (ap (λ (f : Seq (symbols 7 .ring)). f 2) (sym same) ∙ want .degree 2 (omega arith)) in
     omega arith
@@ -70,7 +71,9 @@ told : {t : ℕ} {room zeroed before after : List ℕ} {back : Near} → 1 ≤ t
     → (a : Answers 7 three word-0-0-1 2 1 1 t room zeroed before after back) × (a .smallest .weight ≡ 2)
 told {t} {room} {before = before} some most large long listed =
     let known = at-three word-0-0-1 room {m = 1} refl tt (omega arith) (omega arith) (omega arith) in
-    let entry = first-determined (listTable 7 three word-0-0-1 2 1 1 t room before) (listed .entry) 0 (listed .first) (list-goes known t room before some most large (omega arith)) in
+    let entry =
+    first-determined (listTable 7 three word-0-0-1 2 1 1 t room before) (listed .entry) 0 (listed .first)
+    (list-goes known t room before some most large (omega arith)) in
     let s = worked-smallest known worked-0-0-1 in
     (listed .answers entry, weight-unique (listed .answers entry .smallest) (s .0) ∙ s .1)
 
@@ -88,7 +91,8 @@ rule =
     }
 
 pub list-2 : ListGives 2 (refusal 13)
-list-2 room zeroed before after back large long listed = let (a, w) = told (omega arith) (omega arith) large long listed in a .unvouched (omega arith)
+list-2 room zeroed before after back large long listed =
+    let (a, w) = told (omega arith) (omega arith) large long listed in a .unvouched (omega arith)
 
 pub list-3 : ListGives 3 (record { number = 0; count = 0; updates = 1; weight = 2 })
 list-3 room zeroed before after back large long listed =
@@ -96,5 +100,7 @@ list-3 room zeroed before after back large long listed =
     let lists = a .lists (omega arith) in
     let none = empty (lists .list) (lists .exactly .wanted) in
     let made = updates-unique (at-places word-0-0-1 refl tt) (lists .updates-are) rule in
-    let rest = rw none at (lists .rest) in
-    (near-same (lists .done) (lists .count ∙ ap length none) made (lists .weight-is ∙ w), ext-getD 0 after before (rest .long) (λ i k. rest .same i zero-le))
+    let rest = rw none at (lists .rest) in (
+      near-same (lists .done) (lists .count ∙ ap length none) made (lists .weight-is ∙ w),
+      ext-getD 0 after before (rest .long) (λ i k. rest .same i zero-le),
+    )

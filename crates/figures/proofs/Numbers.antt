@@ -51,12 +51,15 @@ module _ {p : ℕ} {points word : List ℕ} {k m l : ℕ} {lent : List ℕ} (a :
       first-goes 7 (listTable p points word k m l t room messages) 0 (search needs) request-goes
       (⊎-elim (λ h. omega arith) (λ h. omega arith) ⊳ ⊎-elim (λ h. omega arith) (λ h. omega arith) ⊳ refl)
 
-encode-gives : {p : ℕ} {points : List ℕ} {k : ℕ} (n : ℕ) → ((message lent : List ℕ) → length message ≡ k → First (encodeTable p points message lent) (suc n)) → EncodeGives (suc n) p points k
-encode-gives {p} {points} n table message before after given long e = first-determined (encodeTable p points message before) given (suc n) (e .first) (table message before long)
+encode-gives : {p : ℕ} {points : List ℕ} {k : ℕ} (n : ℕ)
+    → ((message lent : List ℕ) → length message ≡ k → First (encodeTable p points message lent) (suc n)) → EncodeGives (suc n) p points k
+encode-gives {p} {points} n table message before after given long e =
+    first-determined (encodeTable p points message before) given (suc n) (e .first) (table message before long)
 
 -- where line n + 1 is the first that applies in both tables
 module _ {p : ℕ} {points word : List ℕ} {k m l t : ℕ} where
-  refused : (n : ℕ) → ((lent : List ℕ) → First (startTable p points word k m l lent) (suc n)) → ((room messages : List ℕ) → First (listTable p points word k m l t room messages) (suc n))
+  refused : (n : ℕ) → ((lent : List ℕ) → First (startTable p points word k m l lent) (suc n))
+      → ((room messages : List ℕ) → First (listTable p points word k m l t room messages) (suc n))
       → Refused (suc n) p points word k m l t
   refused n start list =
       record {
@@ -90,5 +93,6 @@ module _ (points word : List ℕ) where
 
     pub l-9 : (k m t : ℕ) → 2 ≤ k → k < length points → Refused 5 7 points word k m 9 t
     l-9 k m t low degree =
-        refused 4 (λ lent. (λ n. n seven) ⊳ good-count some most ⊳ (λ n. n same) ⊳ good-degree low degree ⊳ inl (inr (inr (inr (omega arith))), refl))
+        refused 4 (λ lent. (λ n. n seven) ⊳ good-count some most ⊳ (λ n. n same) ⊳ good-degree low degree ⊳ inl
+        (inr (inr (inr (omega arith))), refl))
         (λ room messages. (λ n. n seven) ⊳ good-count some most ⊳ (λ n. n same) ⊳ good-degree low degree ⊳ inl (inr (inr (inr (omega arith))), refl))

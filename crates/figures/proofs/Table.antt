@@ -29,8 +29,11 @@ encodes : (message word : List ℕ) → length message ≡ 3 → T (small messag
     → T (all 6 (λ s. eqb (valueAt 7 message (getD six s 0) .byte) (getD word s 0))) → Encodes message word
 encodes message word k below long values before after number room e =
     let z : number ≡ 0 = first-determined (encodeTable 7 six message before) number 0 (e .first) passes in
-    let l : length (take 6 after) ≡ 6 = length-take-le 6 after (let q = e .long in omega arith) in
-    (z, ext-getD 0 (take 6 after) word (l ∙ sym long) (λ s h. getD-take 6 after s 0 (omega arith) ∙ e .word z s (omega arith) ∙ eqb→eq _ _ (all-at 6 (λ s. eqb (valueAt 7 message (getD six s 0) .byte) (getD word s 0)) values s (omega arith))))
+    let l : length (take 6 after) ≡ 6 = length-take-le 6 after (let q = e .long in omega arith) in (
+      z,
+      ext-getD 0 (take 6 after) word (l ∙ sym long) (λ s h. getD-take 6 after s 0 (omega arith) ∙ e .word z s (omega arith)
+          ∙ eqb→eq _ _ (all-at 6 (λ s. eqb (valueAt 7 message (getD six s 0) .byte) (getD word s 0)) values s (omega arith))),
+    )
   where
     passes : First (encodeTable 7 six message before) 0
     passes =
@@ -53,7 +56,8 @@ message-1-3-4 = encodes (1 ∷ 3 ∷ 4 ∷ []) (1 ∷ 2 ∷ 4 ∷ 0 ∷ 4 ∷ 2 
 -- start goes for a word at the points 1, 2, 3
 goes : (word : List ℕ) {m : ℕ} (c : Calls (atThree word m)) → length word ≡ 3 → T (small word) → 1 ≤ m → m ≤ 4 → c .start .number ≡ 0
 goes word {m} c long below some most =
-    first-determined (startTable 7 three word 2 m m (c .lent)) (c .start .number) 0 (c .starts .first) (start-goes (at-three word (c .lent) long below some most (c .room)))
+    first-determined (startTable 7 three word 2 m m (c .lent)) (c .start .number) 0 (c .starts .first)
+    (start-goes (at-three word (c .lent) long below some most (c .room)))
 
 pub figures : Figures
 figures =

@@ -44,11 +44,13 @@ sound : Sound R 1 6 2 1 start
 sound = start-sound seven-laws 2 thr 2 2 (omega arith) (omega arith) (omega arith)
 
 search-1 : seek F 1 2 (start 1) 7 ≡ found 4 1
-unfolding symbol sumOf productOf negativeOf sameSymbol pow prod zeroS oneS addS negS mulS consS constS xS lin startRow seek look pick decLe ℕ-discrete
+unfolding symbol sumOf productOf negativeOf sameSymbol pow prod zeroS oneS addS negS mulS consS constS xS lin startRow seek look pick decLe
+    ℕ-discrete
 search-1 = refl
 
 search-2 : seek F 1 3 (start 2) 7 ≡ found 2 2
-unfolding symbol sumOf productOf negativeOf sameSymbol pow prod zeroS oneS addS negS mulS consS constS xS lin startRow seek look pick decLe ℕ-discrete
+unfolding symbol sumOf productOf negativeOf sameSymbol pow prod zeroS oneS addS negS mulS consS constS xS lin startRow seek look pick decLe
+    ℕ-discrete
 search-2 = refl
 
 module _ (rows : ℕ → Curve R) (at : AtStart q h rows) where
@@ -77,8 +79,10 @@ worked-0-0-0 =
       h = h;
       through = thr;
       left = λ rows. rows;
-      turn = λ a le rows at. rises {r = 1} 4 (omega arith) (lead-1 rows at) (rises {r = 2} 2 (omega arith) (lead-2 rows at) (finished {r = 3} (omega arith)));
-      lightest = λ rows at. lightest-new (lightest-new (lightest-one rows (lead-0 rows at)) (lead-1 rows at) (omega arith)) (lead-2 rows at) (omega arith);
+      turn = λ a le rows at. rises {r = 1} 4 (omega arith) (lead-1 rows at)
+          (rises {r = 2} 2 (omega arith) (lead-2 rows at) (finished {r = 3} (omega arith)));
+      lightest =
+          λ rows at. lightest-new (lightest-new (lightest-one rows (lead-0 rows at)) (lead-1 rows at) (omega arith)) (lead-2 rows at) (omega arith);
       long = refl;
       holds = holds;
       top = λ e. omega arith;

@@ -46,7 +46,8 @@ thr = through three word-0-0-1 (1 ∷ 2 ∷ 4 ∷ []) refl tt
 
 pub h-is : (g : Seq R) → Interpolates q g ↔ (g ≡ h)
 h-is g = (
-  λ also. interpolant-unique (seven-laws .ring) 3 (symbolsOf 7 three) (symbolsOf 7 word-0-0-1) g h (distinct-apart seven-laws 3 (symbolsOf 7 three) three-distinct) also thr,
+  λ also. interpolant-unique (seven-laws .ring) 3 (symbolsOf 7 three) (symbolsOf 7 word-0-0-1) g h
+      (distinct-apart seven-laws 3 (symbolsOf 7 three) three-distinct) also thr,
   λ e. rw e thr,
 )
 
@@ -57,7 +58,8 @@ sound : Sound R 1 3 1 1 start
 sound = start-sound seven-laws 1 thr 2 1 (omega arith) (omega arith) (omega arith)
 
 lead : Lead R 1 2 0 (start 1)
-unfolding symbol sumOf productOf negativeOf sameSymbol pow prod zeroS oneS addS negS mulS consS constS xS lin startRow seek look pick decLe ℕ-discrete
+unfolding symbol sumOf productOf negativeOf sameSymbol pow prod zeroS oneS addS negS mulS consS constS xS lin startRow seek look pick decLe
+    ℕ-discrete
 lead = lead-found F 1 (start 1) 2 4 (sound .low 1 (omega arith) (omega arith)) (sound .light 1 (omega arith)) refl
 
 abbrev updated : (ℕ → Curve R) → ℕ → Curve R
@@ -79,14 +81,16 @@ module _ (rows : ℕ → Curve R) (at : AtStart q h rows) where
 
 -- its coefficient of x y is 1
 updated-nonzero : Zero R (updated start 1) → ⊥
-unfolding symbol sumOf productOf negativeOf inverseOf pow prod zeroS oneS addS negS scaleS mulS consS constS xS lin startRow mono put cross ratio update decLe ℕ-discrete
+unfolding symbol sumOf productOf negativeOf inverseOf pow prod zeroS oneS addS negS scaleS mulS consS constS xS lin startRow mono put cross ratio
+    update decLe ℕ-discrete
 updated-nonzero z = let e : _≡_ {A = ℕ} 1 0 = ap (λ (x : Element 7). x .byte) (z 1 1) in omega arith
 
 updated-sound : Sound R 1 3 1 1 (updated start)
 updated-sound = sound-update seven-laws sound (due start (λ i k. refl)) updated-nonzero
 
 updated-leads : Lead R 1 2 1 (updated start 1)
-unfolding symbol sumOf productOf negativeOf inverseOf sameSymbol pow prod zeroS oneS addS negS scaleS mulS consS constS xS lin startRow mono put cross ratio update seek look pick decLe ℕ-discrete
+unfolding symbol sumOf productOf negativeOf inverseOf sameSymbol pow prod zeroS oneS addS negS scaleS mulS consS constS xS lin startRow mono put
+    cross ratio update seek look pick decLe ℕ-discrete
 updated-leads = lead-found F 1 (updated start 1) 2 4 (updated-sound .low 1 (omega arith) (omega arith)) (updated-sound .light 1 (omega arith)) refl
 
 pub formula-is-one : updatesBound q ≡ 1
@@ -99,7 +103,8 @@ module _ (rows : ℕ → Curve R) (at : AtStart q h rows) where
 
   turn : (a : ℕ) → 1 ≤ a → Turn F 1 1 a rows 1 (record { number = 0; rows = updated rows; row = 2; updates = 1 })
   turn zero le = absurd (omega arith)
-  turn (suc a) le = updates 2 0 3 (due rows at) (rw (updated-same rows at) updated-nonzero) (rises {r = 1} 2 (omega arith) lead-1 (finished {r = 2} (omega arith)))
+  turn (suc a) le =
+      updates 2 0 3 (due rows at) (rw (updated-same rows at) updated-nonzero) (rises {r = 1} 2 (omega arith) lead-1 (finished {r = 2} (omega arith)))
 
 abbrev bytes : List ℕ
 bytes = (2 ∷ 4 ∷ 1 ∷ 0 ∷ []) ++ (5 ∷ 0 ∷ 0 ∷ 0 ∷ [])
@@ -108,7 +113,8 @@ abbrev curve : Curve R
 curve = monic F 1 2 0 (updated start 0)
 
 holds : HoldsCurve (shapeFor q) bytes curve
-unfolding symbol sumOf productOf negativeOf inverseOf pow prod zeroS oneS addS negS scaleS mulS consS constS xS lin startRow mono put cross ratio update decLe ℕ-discrete
+unfolding symbol sumOf productOf negativeOf inverseOf pow prod zeroS oneS addS negS scaleS mulS consS constS xS lin startRow mono put cross ratio
+    update decLe ℕ-discrete
 holds = holds-curve (shapeFor q) curve bytes tt
 
 pub worked-0-0-1 : Worked q 1 0 2 bytes

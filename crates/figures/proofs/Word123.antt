@@ -44,7 +44,8 @@ sound : Sound R 1 3 1 1 start
 sound = start-sound seven-laws 1 thr 2 1 (omega arith) (omega arith) (omega arith)
 
 lead : Lead R 1 1 1 (start 1)
-unfolding symbol sumOf productOf negativeOf sameSymbol pow prod zeroS oneS addS negS mulS consS constS xS lin startRow seek look pick decLe ℕ-discrete
+unfolding symbol sumOf productOf negativeOf sameSymbol pow prod zeroS oneS addS negS mulS consS constS xS lin startRow seek look pick decLe
+    ℕ-discrete
 lead = lead-found F 1 (start 1) 2 4 (sound .low 1 (omega arith) (omega arith)) (sound .light 1 (omega arith)) refl
 
 module _ (rows : ℕ → Curve R) (at : AtStart q x rows) where

@@ -21,10 +21,13 @@ use Rattle.figures.proofs.Calls.{calls-accepted, calls-hand}
 abbrev y^m : (q : Request) → Curve (ringFor q)
 y^m q = pow (Series (Series (ringFor q))) (xS (Series (ringFor q))) (q .m)
 
-pub zero-word : (q : Request) (c : Calls q) → ((s : ℕ) → getD (q .word) s 0 ≡ 0) → c .start .number ≡ 0 → HoldsCurve (shapeFor q) (c .curve) (y^m q) × (c .finish .weight ≡ q .m * (q .k - 1))
+pub zero-word : (q : Request) (c : Calls q) → ((s : ℕ) → getD (q .word) s 0 ≡ 0) → c .start .number ≡ 0
+    → HoldsCurve (shapeFor q) (c .curve) (y^m q) × (c .finish .weight ≡ q .m * (q .k - 1))
 zero-word q c zeros ok =
-    let hand = calls-hand c ok in
-    (rw (← hand .only (y^m q) (smallest .0)) at (hand .bytes), hand .weight ∙ weight-unique (hand .smallest) (smallest .0) ∙ smallest .1 ∙ mul-comm (q .k - 1) (q .m))
+    let hand = calls-hand c ok in (
+      rw (← hand .only (y^m q) (smallest .0)) at (hand .bytes),
+      hand .weight ∙ weight-unique (hand .smallest) (smallest .0) ∙ smallest .1 ∙ mul-comm (q .k - 1) (q .m),
+    )
   where
     known : Accepted (q .p) (q .points) (q .word) (q .k) (q .m) (q .l) (c .lent)
     known = calls-accepted c ok
@@ -37,4 +40,7 @@ zero-word q c zeros ok =
         let Φ = symbols-field (q .p) (known .places .size) in
         let points = places-distinct (known .places) in
         let degree = known .degree in
-        rw word (smallest-zero-word Φ points (q .k - 1) (q .m) (q .l) (omega arith) (known .heights .order), zero-word-weight Φ points (q .k - 1) (q .m) (q .l) (omega arith) (known .heights .order))
+        rw word (
+          smallest-zero-word Φ points (q .k - 1) (q .m) (q .l) (omega arith) (known .heights .order),
+          zero-word-weight Φ points (q .k - 1) (q .m) (q .l) (omega arith) (known .heights .order),
+        )

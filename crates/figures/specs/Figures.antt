@@ -34,7 +34,8 @@ abbrev pub six : List ℕ
 six = 1 ∷ 2 ∷ 3 ∷ 4 ∷ 5 ∷ 6 ∷ []
 
 abbrev pub Encodes : List ℕ → List ℕ → Type 0
-Encodes message word = (before after : List ℕ) (number : ℕ) → 6 ≤ length before → Encoded 7 six message before after number → (number ≡ 0) × (take 6 after ≡ word)
+Encodes message word =
+    (before after : List ℕ) (number : ℕ) → 6 ≤ length before → Encoded 7 six message before after number → (number ≡ 0) × (take 6 after ≡ word)
 
 -- with room enough, and one turn whose allowance is the formula or more
 pub record Calls (q : Request) : Type 0 where
@@ -76,11 +77,13 @@ ListGives t near =
     → HasListed 7 three word-0-0-1 2 1 1 t room zeroed before after back → (back ≡ near) × (after ≡ before)
 
 abbrev pub EncodeGives : ℕ → ℕ → List ℕ → ℕ → Type 0
-EncodeGives number p points k = (message before after : List ℕ) (given : ℕ) → length message ≡ k → Encoded p points message before after given → given ≡ number
+EncodeGives number p points k =
+    (message before after : List ℕ) (given : ℕ) → length message ≡ k → Encoded p points message before after given → given ≡ number
 
 pub record Refused (number p : ℕ) (points word : List ℕ) (k m l t : ℕ) : Type 0 where
   pub start : (before after : List ℕ) (back : Started) → HasStarted p points word k m l before after back → back .number ≡ number
-  pub list : (room zeroed before after : List ℕ) (back : Near) → HasListed p points word k m l t room zeroed before after back → back .number ≡ number
+  pub list : (room zeroed before after : List ℕ) (back : Near) → HasListed p points word k m l t room zeroed before after back
+      → back .number ≡ number
 
 pub record Figures : Type 0 where
   pub message-5-2-6 : Encodes (5 ∷ 2 ∷ 6 ∷ []) (6 ∷ 5 ∷ 2 ∷ 4 ∷ 4 ∷ 2 ∷ [])
@@ -88,7 +91,8 @@ pub record Figures : Type 0 where
   -- no update, weight 1 and height 1: y + 6x
   pub curve-1-2-3 : (c : Calls (atThree three 1)) → Gives c 0 1 1 ((0 ∷ 6 ∷ 0 ∷ 0 ∷ []) ++ (1 ∷ 0 ∷ 0 ∷ 0 ∷ []))
   -- h = 4x^2 + 2x + 1
-  pub h-0-0-1 : (h : Seq (symbols 7 .ring)) → Through (symbols 7 .ring) 3 (symbolsOf 7 three) (symbolsOf 7 word-0-0-1) h ↔ (h ≡ symbolsOf 7 (1 ∷ 2 ∷ 4 ∷ []))
+  pub h-0-0-1 : (h : Seq (symbols 7 .ring)) → Through (symbols 7 .ring) 3 (symbolsOf 7 three) (symbolsOf 7 word-0-0-1) h
+      ↔ (h ≡ symbolsOf 7 (1 ∷ 2 ∷ 4 ∷ []))
   pub formula-0-0-1 : formula 3 2 1 1 ≡ 1
   -- one update, weight 2 and height 1: 5y + x^2 + 4x + 2
   pub curve-0-0-1 : (c : Calls (atThree word-0-0-1 1)) → Gives c 1 2 1 ((2 ∷ 4 ∷ 1 ∷ 0 ∷ []) ++ (5 ∷ 0 ∷ 0 ∷ 0 ∷ []))
@@ -96,13 +100,16 @@ pub record Figures : Type 0 where
   pub list-t-3 : ListGives 3 (record { number = 0; count = 0; updates = 1; weight = 2 })
   pub list-t-2 : ListGives 2 (refusal 13)
   -- no update, weight 2 and height 2: y^2
-  pub curve-0-0-0 : (c : Calls (atThree (0 ∷ 0 ∷ 0 ∷ []) 2)) → Gives c 0 2 2 ((0 ∷ 0 ∷ 0 ∷ 0 ∷ 0 ∷ 0 ∷ 0 ∷ []) ++ (0 ∷ 0 ∷ 0 ∷ 0 ∷ 0 ∷ 0 ∷ 0 ∷ []) ++ (1 ∷ 0 ∷ 0 ∷ 0 ∷ 0 ∷ 0 ∷ 0 ∷ []))
+  pub curve-0-0-0 : (c : Calls (atThree (0 ∷ 0 ∷ 0 ∷ []) 2))
+      → Gives c 0 2 2 ((0 ∷ 0 ∷ 0 ∷ 0 ∷ 0 ∷ 0 ∷ 0 ∷ []) ++ (0 ∷ 0 ∷ 0 ∷ 0 ∷ 0 ∷ 0 ∷ 0 ∷ []) ++ (1 ∷ 0 ∷ 0 ∷ 0 ∷ 0 ∷ 0 ∷ 0 ∷ []))
   -- in general y^m, of weight m (k - 1)
   pub zero-word : (q : Request) (c : Calls q) → ((s : ℕ) → getD (q .word) s 0 ≡ 0) → c .start .number ≡ 0
-      → HoldsCurve (shapeFor q) (c .curve) (pow (Series (Series (ringFor q))) (xS (Series (ringFor q))) (q .m)) × (c .finish .weight ≡ q .m * (q .k - 1))
+      → HoldsCurve (shapeFor q) (c .curve) (pow (Series (Series (ringFor q))) (xS (Series (ringFor q))) (q .m))
+      × (c .finish .weight ≡ q .m * (q .k - 1))
   pub p-9-gives-1 : (points word : List ℕ) (k m l t : ℕ) → EncodeGives 1 9 points k × Refused 1 9 points word k m l t
   pub n-2-gives-2 : (points word : List ℕ) (k m l t : ℕ) → length points ≡ 2 → EncodeGives 2 7 points k × Refused 2 7 points word k m l t
   pub k-n-gives-4 : (points word : List ℕ) (m l t : ℕ) → 3 ≤ length points → length points ≤ 7 → length word ≡ length points
       → EncodeGives 4 7 points (length points) × Refused 4 7 points word (length points) m l t
-  pub l-9-gives-5 : (points word : List ℕ) (k m t : ℕ) → 3 ≤ length points → length points ≤ 7 → length word ≡ length points → 2 ≤ k → k < length points
+  pub l-9-gives-5 : (points word : List ℕ) (k m t : ℕ) → 3 ≤ length points → length points ≤ 7 → length word ≡ length points → 2 ≤ k
+      → k < length points
       → Refused 5 7 points word k m 9 t

@@ -18,12 +18,14 @@ use Rattle.near.proofs.Lists.{in-at, ascending-once}
 use Rattle.near.proofs.Agreements.{wanted-root}
 use Rattle.near.proofs.search.Found.{found-list}
 
-module _ {F : Field} (Φ : FieldLaws F) (task : Task F) (num : Numbering F (task .p) (task .element)) (points : Distinct (F .ring) (task .n) (task .point)) where
+module _ {F : Field} (Φ : FieldLaws F) (task : Task F) (num : Numbering F (task .p) (task .element))
+    (points : Distinct (F .ring) (task .n) (task .point)) where
   abbrev R : Ring
   R = F .ring
 
   -- a nonzero curve of demand 2 whose weight is below m t
-  module _ {m l w s : ℕ} {Q : Curve R} (pass : Passing R (task .n) m l (task .point) (task .received) Q) (lead : Lead R (task .k - 1) w s Q) (enough : w < m * task .t) where
+  module _ {m l w s : ℕ} {Q : Curve R} (pass : Passing R (task .n) m l (task .point) (task .received) Q) (lead : Lead R (task .k - 1) w s Q)
+      (enough : w < m * task .t) where
     root : (g : Seq R) → Wanted task g → value (Series R) g (suc l) Q ≡ zeroS R
     root = wanted-root Φ task points pass lead enough
 
@@ -31,7 +33,9 @@ module _ {F : Field} (Φ : FieldLaws F) (task : Task F) (num : Numbering F (task
     search-is-list W = found-list Φ task num (suc l) W Q (pass .height) root
 
     pub list-at-most : (list : List (List ℕ)) → IsList task list → length list ≤ l
-    list-at-most list h = roots-at-most (series (Φ .ring)) l (length list) g Q some (height-below R (pass .height)) (polynomials-apart Φ (length list) (task .k) g (λ i k. wanted i k .degree) different) (λ i k. root (g i) (wanted i k))
+    list-at-most list h =
+        roots-at-most (series (Φ .ring)) l (length list) g Q some (height-below R (pass .height))
+        (polynomials-apart Φ (length list) (task .k) g (λ i k. wanted i k .degree) different) (λ i k. root (g i) (wanted i k))
       where
         g : ℕ → Seq R
         g i = polynomial task (getD list i [])
@@ -45,4 +49,5 @@ module _ {F : Field} (Φ : FieldLaws F) (task : Task F) (num : Numbering F (task
         different : (i j : ℕ) → i < length list → j < length list → g i ≡ g j → i ≡ j
         different i j k q e =
             ascending-once list (h .ascending) i j k q
-            (polynomial-same task num (getD list i []) (getD list j []) (h .spelt (getD list i []) (in-at list i k)) (h .spelt (getD list j []) (in-at list j q)) e)
+            (polynomial-same task num (getD list i []) (getD list j []) (h .spelt (getD list i []) (in-at list i k))
+            (h .spelt (getD list j []) (in-at list j q)) e)

@@ -36,12 +36,15 @@ module _ {p : ℕ} {points word : List ℕ} {k m l : ℕ} (places : Places p poi
   updates-unique a b =
       let Φ = symbols-field p (places .size) in
       let apart = distinct-apart Φ (length points) (symbolsOf p points) (places-distinct places) in
-      let e : b .h ≡ a .h = interpolant-unique (Φ .ring) (length points) (symbolsOf p points) (symbolsOf p word) (b .h) (a .h) apart (b .through) (a .through) in
+      let e : b .h ≡ a .h =
+      interpolant-unique (Φ .ring) (length points) (symbolsOf p points) (symbolsOf p word) (b .h) (a .h) apart (b .through) (a .through) in
       a .are ∙ ap (λ (o : Outcome (symbols p)). o .updates) (end-determined (a .turn) (a .finished) (rw e at (b .turn)) (b .finished)) ∙ sym (b .are)
 
-  lists-determined : {t w v : ℕ} {before after also : List ℕ} {x y : Near} → w ≡ v → Lists p points word k m l t w before after x → Lists p points word k m l t v before also y → (x ≡ y) × (after ≡ also)
+  lists-determined : {t w v : ℕ} {before after also : List ℕ} {x y : Near} → w ≡ v → Lists p points word k m l t w before after x
+      → Lists p points word k m l t v before also y → (x ≡ y) × (after ≡ also)
   lists-determined {t} {before = before} {after} {also} e f g = (
-    near-same (f .done ∙ sym (g .done)) (f .count ∙ ap length same ∙ sym (g .count)) (updates-unique (f .updates-are) (g .updates-are)) (f .weight-is ∙ e ∙ sym (g .weight-is)),
+    near-same (f .done ∙ sym (g .done)) (f .count ∙ ap length same ∙ sym (g .count)) (updates-unique (f .updates-are) (g .updates-are))
+        (f .weight-is ∙ e ∙ sym (g .weight-is)),
     untouched-unique size (f .rest) (rw (← same) at (g .rest)) low,
   )
     where
@@ -59,7 +62,8 @@ module _ {p : ℕ} {points word : List ℕ} {k m l : ℕ} (places : Places p poi
 
 -- two outcomes of list for the same arguments are the same
 module _ {p : ℕ} {points word : List ℕ} {k m l t : ℕ} {room messages : List ℕ} where
-  pub list-determined : {cleared zeros after also : List ℕ} {x y : Near} → HasListed p points word k m l t room cleared messages after x → HasListed p points word k m l t room zeros messages also y
+  pub list-determined : {cleared zeros after also : List ℕ} {x y : Near} → HasListed p points word k m l t room cleared messages after x
+      → HasListed p points word k m l t room zeros messages also y
       → (x ≡ y) × (cleared ≡ zeros) × (after ≡ also)
   list-determined {cleared} {zeros} {after} {also} {x} {y} f g = go (ℕ-discrete (f .entry) 0)
     where
@@ -71,9 +75,11 @@ module _ {p : ℕ} {points word : List ℕ} {k m l t : ℕ} {room messages : Lis
           let a = f .refused n in
           let b = g .refused (λ e. n (same ∙ e)) in
           (a .0 ∙ ap refusal same ∙ sym (b .0), a .1 ∙ sym (b .1), a .2 ∙ sym (b .2))
-      go (yes e) = answered (f .answers e) (g .answers (sym same ∙ e)) (list-taken p points word k m l t room messages (rw e at (f .first)) .accepted .places)
+      go (yes e) =
+          answered (f .answers e) (g .answers (sym same ∙ e)) (list-taken p points word k m l t room messages (rw e at (f .first)) .accepted .places)
         where
-          answered : Answers p points word k m l t room cleared messages after x → Answers p points word k m l t room zeros messages also y → Places p points word → (x ≡ y) × (cleared ≡ zeros) × (after ≡ also)
+          answered : Answers p points word k m l t room cleared messages after x → Answers p points word k m l t room zeros messages also y
+              → Places p points word → (x ≡ y) × (cleared ≡ zeros) × (after ≡ also)
           answered a b places = two (decLt (a .smallest .weight) (m * t))
             where
               weight : a .smallest .weight ≡ b .smallest .weight

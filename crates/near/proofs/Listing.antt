@@ -59,17 +59,28 @@ pub record Taken (p : ℕ) (points word : List ℕ) (k m l t : ℕ) (room messag
   pub working : workingRoom ≤ length room
   pub enough : l * k ≤ length messages
 
-pub list-taken : (p : ℕ) (points word : List ℕ) (k m l t : ℕ) (room messages : List ℕ) → First (listTable p points word k m l t room messages) 0 → Taken p points word k m l t room messages
+pub list-taken : (p : ℕ) (points word : List ℕ) (k m l t : ℕ) (room messages : List ℕ) → First (listTable p points word k m l t room messages) 0
+    → Taken p points word k m l t room messages
 list-taken p points word k m l t room messages first =
-    let (listed, (counted, (spelt, (low, (high, (large, (repeated, (wanted, (short, _))))))))) = first-passed (listTable p points word k m l t room messages) (search needs) first refl in
+    let (listed, (counted, (spelt, (low, (high, (large, (repeated, (wanted, (short, _))))))))) =
+    first-passed (listTable p points word k m l t room messages) (search needs) first refl in
     let few : t < 1 → ⊥ = λ h. wanted (inl h) in
     let many : length points < t → ⊥ = λ h. wanted (inr h) in
     let narrow : length room < workingRoom → ⊥ = λ h. short (inl h) in
     let tight : length messages < l * k → ⊥ = λ h. short (inr h) in
     let fine = good-fine (good-note {note = note} (good listed counted low high)) in
     let room-enough = rows-small fine in
-    let start = passed-first (startTable p points word k m l room) (listed, (counted, (spelt, (low, (high, (large, (repeated, ((λ h. omega arith), tt)))))))) in
-    record { start = start; accepted = start-accepted start refl; some = omega arith; most = omega arith; working = omega arith; enough = omega arith }
+    let start =
+    passed-first (startTable p points word k m l room)
+    (listed, (counted, (spelt, (low, (high, (large, (repeated, ((λ h. omega arith), tt)))))))) in
+    record {
+      start = start;
+      accepted = start-accepted start refl;
+      some = omega arith;
+      most = omega arith;
+      working = omega arith;
+      enough = omega arith;
+    }
   where
     note : Note
     note = record { p = p; n = length points; k = k; m = m; l = l; r = 1 }
@@ -84,7 +95,8 @@ list-taken p points word k m l t room messages first =
 
 -- start, one turn with the largest allowance, which is more than all updates ever made, and finish
 module _ {p : ℕ} {points word : List ℕ} {k m l : ℕ} {room rows new lent curve : List ℕ} {start : Started} {turn : Turned} {finish : Finished}
-    (first : First (startTable p points word k m l room) 0) (began : HasStarted p points word k m l room rows start) (went : HasTurned (start .note) allowanceMost rows new turn)
+    (first : First (startTable p points word k m l room) 0) (began : HasStarted p points word k m l room rows start)
+    (went : HasTurned (start .note) allowanceMost rows new turn)
     (ended : HasFinished (turn .note) new lent curve finish) where
   abbrev q : Request
   q = requestOf p points word k m l
@@ -107,7 +119,9 @@ module _ {p : ℕ} {points word : List ℕ} {k m l : ℕ} {room rows new lent cu
   turned-one = rw (begun .0 .note (begun .1)) at went
 
   goes : Goes (noteFor q 1) allowanceMost rows new turn
-  goes = turned-one .goes (dec→stable (ℕ-discrete (turned-one .entry) 0) (λ n. n (sym (turned-one .refused n .0) ∙ demand-3 q (started begun) .accepted allowanceMost new turn went)))
+  goes =
+      turned-one .goes (dec→stable (ℕ-discrete (turned-one .entry) 0)
+      (λ n. n (sym (turned-one .refused n .0) ∙ demand-3 q (started begun) .accepted allowanceMost new turn went)))
 
   at-end : goes .outcome .row ≡ suc l
   at-end = sym (ap (λ (x : Note). x .r) (goes .next)) ∙ demand-3 q (turned allowanceMost (started begun) went) .finished (omega (arith, enough))
@@ -121,11 +135,13 @@ module _ {p : ℕ} {points word : List ℕ} {k m l : ℕ} {room rows new lent cu
       let b = begins-start Φ points-apart (omega arith) (accepted .degree) (accepted .heights .order) thr in
       let first : ℕ → Curve (ringFor q) = startRow (ringFor q) m (locator (ringFor q) (length points) (symbolsOf p points)) h in
       let same : (i : ℕ) → i ≤ l → rowsOf (shapeFor q) rows i ≡ first i = λ i g.
-      holds-row (shapeFor q) rows g (first i) (λ j e. begun .0 .rows (begun .1) h thr i j e g) (λ j e x. b .fresh i g .height j e (omega arith)) (b .fresh i g .within) in
+      holds-row (shapeFor q) rows g (first i) (λ j e. begun .0 .rows (begun .1) h thr i j e g) (λ j e x. b .fresh i g .height j e (omega arith))
+      (b .fresh i g .within) in
       let (o, t, e, u) = end-alike Φ (fresh-enters Φ (begins-same Φ same b .fresh)) (λ i g. sym (same i g)) (goes .turn) at-end in
       record { h = h; through = thr; allowance = allowanceMost; outcome = o; turn = t; finished = e; are = goes .updates ∙ sym u }
 
-  pub curve-found : curveBytes (shapeFor q) ≤ length lent → FoundCurve p points word k m l room new lent curve (record { updates = turn .updates; weight = finish .weight })
+  pub curve-found : curveBytes (shapeFor q) ≤ length lent
+      → FoundCurve p points word k m l room new lent curve (record { updates = turn .updates; weight = finish .weight })
   curve-found fits =
       let hands = demand-2 q begun enough went ended fits in
       let small = rows-small (good-fine (accepted-note accepted)) in
@@ -143,7 +159,8 @@ module _ {p : ℕ} {points word : List ℕ} {k m l : ℕ} {room rows new lent cu
 
 -- on the curve's bytes the search may run where m t is above the weight, and it gives the list
 module _ {p : ℕ} {points word : List ℕ} {k m l t : ℕ} {room cleared messages lent bytes : List ℕ} {back : Weighed}
-    (taken : Taken p points word k m l t room messages) (f : FoundCurve p points word k m l room cleared lent bytes back) (enough : curveBytes (shape p (length points) k m l) ≤ length lent) where
+    (taken : Taken p points word k m l t room messages) (f : FoundCurve p points word k m l room cleared lent bytes back)
+    (enough : curveBytes (shape p (length points) k m l) ≤ length lent) where
   abbrev plan : Plan
   plan = planOf p (length points) k m l t
 
@@ -180,26 +197,39 @@ module _ {p : ℕ} {points word : List ℕ} {k m l t : ℕ} {room cleared messag
     list = found (taskFor plan points word) (suc l) (suc (plan .width)) Q
 
     exactly : IsList (taskOf p points word k t) list
-    exactly = search-is-list Φ (taskOf p points word k t) (symbols-numbered (a .places .size)) (places-distinct (a .places)) (f .smallest .member) (f .smallest .lead) above (suc (plan .width))
+    exactly =
+        search-is-list Φ (taskOf p points word k t) (symbols-numbered (a .places .size)) (places-distinct (a .places)) (f .smallest .member)
+        (f .smallest .lead) above (suc (plan .width))
 
     few : length list ≤ l
-    few = list-at-most Φ (taskOf p points word k t) (symbols-numbered (a .places .size)) (places-distinct (a .places)) (f .smallest .member) (f .smallest .lead) above list exactly
+    few = list-at-most Φ (taskOf p points word k t) (symbols-numbered (a .places .size)) (places-distinct (a .places)) (f .smallest .member)
+        (f .smallest .lead) above list exactly
 
     pub search-runs : Runs plan points word bytes messages
     search-runs =
         let low = a .low in
         record {
-          received = record { some = omega arith; size = a .places .size; same = a .places .same; points-below = a .places .points-below; word-below = a .places .word-below };
+          received =
+              record {
+                some = omega arith;
+                size = a .places .size;
+                same = a .places .same;
+                points-below = a .places .points-below;
+                word-below = a .places .word-below;
+              };
           laid = laid;
           few = rw curve-is few;
           room = taken .enough;
         }
 
-    pub search-lists : {after : List ℕ} {r : ℕ} → Ran k (found (taskFor plan points word) (suc l) (suc (plan .width)) (curveOf plan bytes)) messages after r
-        → Lists p points word k m l t (f .smallest .weight) messages after (record { number = 0; count = r; updates = back .updates; weight = back .weight })
+    pub search-lists : {after : List ℕ} {r : ℕ}
+        → Ran k (found (taskFor plan points word) (suc l) (suc (plan .width)) (curveOf plan bytes)) messages after r
+        → Lists p points word k m l t (f .smallest .weight) messages after
+        (record { number = 0; count = r; updates = back .updates; weight = back .weight })
     search-lists {after} {r} ran = go (rw curve-is at ran)
       where
-        go : Ran k list messages after r → Lists p points word k m l t (f .smallest .weight) messages after (record { number = 0; count = r; updates = back .updates; weight = back .weight })
+        go : Ran k list messages after r → Lists p points word k m l t (f .smallest .weight) messages after
+            (record { number = 0; count = r; updates = back .updates; weight = back .weight })
         go ran =
             record {
               list = list;
@@ -219,10 +249,12 @@ zeroed-after u z = record { zero = z .zero; rest = untouched-then u (z .rest) }
 
 -- the three ways in which the job ends
 module _ {p : ℕ} {points word : List ℕ} {k m l t : ℕ} {room messages : List ℕ} where
-  pub list-refuses : {number : ℕ} → First (listTable p points word k m l t room messages) number → (number ≡ 0 → ⊥) → HasListed p points word k m l t room room messages messages (refusal number)
+  pub list-refuses : {number : ℕ} → First (listTable p points word k m l t room messages) number → (number ≡ 0 → ⊥)
+      → HasListed p points word k m l t room room messages messages (refusal number)
   list-refuses {number} first other = record { entry = number; first = first; answers = λ z. absurd (other z); refused = λ _. (refl, refl, refl) }
 
-  module _ {used cleared lent bytes : List ℕ} {back : Weighed} (first : First (listTable p points word k m l t room messages) 0) (f : FoundCurve p points word k m l room used lent bytes back)
+  module _ {used cleared lent bytes : List ℕ} {back : Weighed} (first : First (listTable p points word k m l t room messages) 0)
+      (f : FoundCurve p points word k m l room used lent bytes back)
       (z : Zeroed workingRoom used cleared) where
     pub list-unvouched : m * t ≤ back .weight → HasListed p points word k m l t room cleared messages messages (refusal 13)
     list-unvouched le =
@@ -231,17 +263,30 @@ module _ {p : ℕ} {points word : List ℕ} {k m l t : ℕ} {room messages : Lis
           entry = 0;
           first = first;
           answers = λ _.
-              record { curve = f .curve; smallest = f .smallest; zeroed = zeroed-after (f .rest) z; unvouched = λ _. (refl, refl); lists = λ h. absurd (omega arith) };
+              record {
+                curve = f .curve;
+                smallest = f .smallest;
+                zeroed = zeroed-after (f .rest) z;
+                unvouched = λ _. (refl, refl);
+                lists = λ h. absurd (omega arith);
+              };
           refused = λ n. absurd (n refl);
         }
 
-    pub list-answers : {after : List ℕ} {near : Near} → back .weight < m * t → Lists p points word k m l t (f .smallest .weight) messages after near → HasListed p points word k m l t room cleared messages after near
+    pub list-answers : {after : List ℕ} {near : Near} → back .weight < m * t → Lists p points word k m l t (f .smallest .weight) messages after near
+        → HasListed p points word k m l t room cleared messages after near
     list-answers lt lists =
         let e = f .weight-is in
         record {
           entry = 0;
           first = first;
           answers = λ _.
-              record { curve = f .curve; smallest = f .smallest; zeroed = zeroed-after (f .rest) z; unvouched = λ h. absurd (omega arith); lists = λ _. lists };
+              record {
+                curve = f .curve;
+                smallest = f .smallest;
+                zeroed = zeroed-after (f .rest) z;
+                unvouched = λ h. absurd (omega arith);
+                lists = λ _. lists;
+              };
           refused = λ n. absurd (n refl);
         }

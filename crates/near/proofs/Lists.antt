@@ -2,7 +2,8 @@
 -- list that was asked for.
 use mathlib.Core.Path.{_≡_, refl, sym, ap₂, _∙_}
 use mathlib.Core.Logic.{_⊎_, inl, inr, ⊎-elim}
-use mathlib.Core.List.{List, [], _∷_, _++_, List·Memᴰ·head, List·Memᴰ·tail, List·Memᴰ·not-nil, List·Memᴰ·cases-cons, Memᴰ·cast, Memᴰ·append-left, Memᴰ·append-right, List·Memᴰ·append-cases}
+use mathlib.Core.List.{List, [], _∷_, _++_, List·Memᴰ·head, List·Memᴰ·tail, List·Memᴰ·not-nil, List·Memᴰ·cases-cons, Memᴰ·cast, Memᴰ·append-left}
+use mathlib.Core.List.{Memᴰ·append-right, List·Memᴰ·append-cases}
 use Prim.Native.Nat.{ℕ, zero, suc, _<_}
 use native.Mathlib.Omega.{arith}
 use native.Mathlib.Decide.{decLt, ℕ-discrete}
@@ -32,13 +33,17 @@ each-in (suc p) f {x} h = go (List·Memᴰ·append-cases (each p f) h) (λ q. ea
 
 ascending-append : (l r : List (List ℕ)) → Ascending l → Ascending r → ((x y : List ℕ) → In x l → In y r → Before x y) → Ascending (l ++ r)
 ascending-append [] r s t h = t
-ascending-append (x ∷ l) r s t h =
-    (λ y q. ⊎-elim (λ k. s .0 y k) (λ k. h x y (List·Memᴰ·head refl) k) (List·Memᴰ·append-cases l q), ascending-append l r (s .1) t (λ x′ y q k. h x′ y (List·Memᴰ·tail q) k))
+ascending-append (x ∷ l) r s t h = (
+  λ y q. ⊎-elim (λ k. s .0 y k) (λ k. h x y (List·Memᴰ·head refl) k) (List·Memᴰ·append-cases l q),
+  ascending-append l r (s .1) t (λ x′ y q k. h x′ y (List·Memᴰ·tail q) k),
+)
 
-pub ascending-each : (p : ℕ) (f : ℕ → List (List ℕ)) → ((c : ℕ) → Ascending (f c)) → ((b c : ℕ) (x y : List ℕ) → b < c → In x (f b) → In y (f c) → Before x y) → Ascending (each p f)
+pub ascending-each : (p : ℕ) (f : ℕ → List (List ℕ)) → ((c : ℕ) → Ascending (f c))
+    → ((b c : ℕ) (x y : List ℕ) → b < c → In x (f b) → In y (f c) → Before x y) → Ascending (each p f)
 unfolding each
 ascending-each zero f s h = tt
-ascending-each (suc p) f s h = ascending-append (each p f) (f p) (ascending-each p f s h) (s p) (λ x y q k. let u = each-in p f q in h (u .0) p x y (u .1) (u .2) k)
+ascending-each (suc p) f s h =
+    ascending-append (each p f) (f p) (ascending-each p f s h) (s p) (λ x y q k. let u = each-in p f q in h (u .0) p x y (u .1) (u .2) k)
 
 -- after the same first symbols
 pub before-append : (x : List ℕ) {b c : ℕ} (y z : List ℕ) → b < c → Before (x ++ b ∷ y) (x ++ c ∷ z)
@@ -67,7 +72,8 @@ ascending-at (x ∷ list) s i zero l k = absurd (omega arith)
 ascending-at (x ∷ list) s zero (suc j) l k = s .0 (getD list j []) (in-at list j (omega arith))
 ascending-at (x ∷ list) s (suc i) (suc j) l k = ascending-at list (s .1) i j (omega arith) (omega arith)
 
-pub ascending-once : (list : List (List ℕ)) → Ascending list → (i j : ℕ) → i < length list → j < length list → getD list i [] ≡ getD list j [] → i ≡ j
+pub ascending-once : (list : List (List ℕ)) → Ascending list → (i j : ℕ) → i < length list → j < length list → getD list i [] ≡ getD list j []
+    → i ≡ j
 ascending-once list s i j l k e = go (decLt i j) (decLt j i)
   where
     go : Dec (i < j) → Dec (j < i) → i ≡ j
@@ -83,8 +89,10 @@ ascending-unique (x ∷ l) (y ∷ r) s t to from =
     let e : x ≡ y = same (List·Memᴰ·cases-cons (to x (List·Memᴰ·head refl))) (List·Memᴰ·cases-cons (from y (List·Memᴰ·head refl))) in
     ap₂ (λ (a : List ℕ) (b : List (List ℕ)). a ∷ b) e
     (ascending-unique l r (s .1) (t .1)
-    (λ z q. ⊎-elim (λ (d : z ≡ y). absurd (before-irreflexive x (rw (d ∙ sym e) at (s .0 z q)))) (λ k. k) (List·Memᴰ·cases-cons (to z (List·Memᴰ·tail q))))
-    (λ z q. ⊎-elim (λ (d : z ≡ x). absurd (before-irreflexive y (rw (d ∙ e) at (t .0 z q)))) (λ k. k) (List·Memᴰ·cases-cons (from z (List·Memᴰ·tail q)))))
+    (λ z q. ⊎-elim (λ (d : z ≡ y). absurd (before-irreflexive x (rw (d ∙ sym e) at (s .0 z q)))) (λ k. k)
+    (List·Memᴰ·cases-cons (to z (List·Memᴰ·tail q))))
+    (λ z q. ⊎-elim (λ (d : z ≡ x). absurd (before-irreflexive y (rw (d ∙ e) at (t .0 z q)))) (λ k. k)
+    (List·Memᴰ·cases-cons (from z (List·Memᴰ·tail q)))))
   where
     same : (x ≡ y) ⊎ In x r → (y ≡ x) ⊎ In y l → x ≡ y
     same (inl e) d = e

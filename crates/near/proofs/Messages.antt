@@ -41,7 +41,8 @@ module _ {F : Field} (task : Task F) (num : Numbering F (task .p) (task .element
   polynomial-same x y sx sy e =
       let lx = sx .long in
       let ly = sy .long in
-      ext-getD 0 x y (omega arith) (λ i l. num .once (getD x i 0) (getD y i 0) (sx .small i (omega arith)) (sy .small i (omega arith)) (ap (λ (g : Seq (F .ring)). g i) e))
+      ext-getD 0 x y (omega arith)
+      (λ i l. num .once (getD x i 0) (getD y i 0) (sx .small i (omega arith)) (sy .small i (omega arith)) (ap (λ (g : Seq (F .ring)). g i) e))
 
   pub spell : (k : ℕ) (g : Seq (F .ring)) → Below (F .ring) k g → (x : List ℕ) × Spelt (task .p) k x × (polynomial task x ≡ g)
   spell zero g h = ([], spelt-nil, fun-ext (λ i. num .zero ∙ sym (h i (omega arith))))
@@ -77,14 +78,17 @@ module _ {F : Field} (Φ : FieldLaws F) (task : Task F) (num : Numbering F (task
       ∙ sym (addS-at R Y (polynomial task x) j ∙ rw (mono-mul-low L 𝟙 (length x) j (polynomial task y) l) (zero-add L (polynomial task x j))))
       (λ i. ap (task .element) (getD-append-add x y i 0)
       ∙ sym (addS-at R Y (polynomial task x) (length x + i)
-      ∙ ap₂ _⊕_ (mono-mul-at L 𝟙 (length x) i (polynomial task y) ∙ one-mul L (polynomial task y i)) (polynomial-beyond task num x (length x + i) (omega arith))
+      ∙ ap₂ _⊕_ (mono-mul-at L 𝟙 (length x) i (polynomial task y) ∙ one-mul L (polynomial task y i))
+      (polynomial-beyond task num x (length x + i) (omega arith))
       ∙ add-zero L (polynomial task y i)))
     where
       Y : Seq R
       Y = mono R 𝟙 (length x) ⊠ polynomial task y
 
   pub polynomial-snoc : (x : List ℕ) (c : ℕ) → polynomial task (x ++ (c ∷ [])) ≡ mono R (task .element c) (length x) ⊞ polynomial task x
-  polynomial-snoc x c = polynomial-append x (c ∷ []) ∙ rw (fun-ext one, ← mono-zero R (task .element c), mono-mono L (length x) (task .element c) 0, n-add-zero (length x))
+  polynomial-snoc x c =
+      polynomial-append x (c ∷ [])
+      ∙ rw (fun-ext one, ← mono-zero R (task .element c), mono-mono L (length x) (task .element c) 0, n-add-zero (length x))
     where
       one : (i : ℕ) → polynomial task (c ∷ []) i ≡ constS R (task .element c) i
       one zero = sym (constS-zero R (task .element c))

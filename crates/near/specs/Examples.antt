@@ -18,9 +18,12 @@ abbrev curve : List (List ℕ) → Curve (symbols 7 .ring)
 curve slots = λ j e. symbol 7 (getD (getD slots j []) e 0)
 
 one-message : found (taskOf 7 (1 ∷ 2 ∷ 3 ∷ []) (1 ∷ 2 ∷ 3 ∷ []) 2 2) 2 2 (curve ((0 ∷ 6 ∷ []) ∷ (1 ∷ []) ∷ [])) ≡ (0 ∷ 1 ∷ []) ∷ []
-unfolding symbol sumOf productOf sameSymbol zeroS oneS addS mulS consS constS value mono agreements curveAt slice least each some? level ℕ-discrete decLe
+unfolding symbol sumOf productOf sameSymbol zeroS oneS addS mulS consS constS value mono agreements curveAt slice least each some? level ℕ-discrete
+    decLe
 one-message = refl
 
-two-messages : found (taskOf 7 (1 ∷ 2 ∷ 3 ∷ 4 ∷ []) (2 ∷ 2 ∷ 3 ∷ 4 ∷ []) 2 2) 3 3 (curve ((0 ∷ 2 ∷ []) ∷ (5 ∷ 6 ∷ []) ∷ (1 ∷ []) ∷ [])) ≡ (0 ∷ 1 ∷ []) ∷ (2 ∷ 0 ∷ []) ∷ []
-unfolding symbol sumOf productOf sameSymbol zeroS oneS addS mulS consS constS value mono agreements curveAt slice least each some? level ℕ-discrete decLe
+two-messages : found (taskOf 7 (1 ∷ 2 ∷ 3 ∷ 4 ∷ []) (2 ∷ 2 ∷ 3 ∷ 4 ∷ []) 2 2) 3 3 (curve ((0 ∷ 2 ∷ []) ∷ (5 ∷ 6 ∷ []) ∷ (1 ∷ []) ∷ []))
+    ≡ (0 ∷ 1 ∷ []) ∷ (2 ∷ 0 ∷ []) ∷ []
+unfolding symbol sumOf productOf sameSymbol zeroS oneS addS mulS consS constS value mono agreements curveAt slice least each some? level ℕ-discrete
+    decLe
 two-messages = refl

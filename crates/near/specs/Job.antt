@@ -58,7 +58,8 @@ module _ (p : ℕ) (points word : List ℕ) (k m l : ℕ) where
     pub through : Through (symbols p .ring) (length points) (symbolsOf p points) (symbolsOf p word) h
     pub allowance : ℕ
     pub outcome : Outcome (symbols p)
-    pub turn : Turn (symbols p) (k - 1) l allowance (startRow (symbols p .ring) m (locator (symbols p .ring) (length points) (symbolsOf p points)) h) 1 outcome
+    pub turn : Turn (symbols p) (k - 1) l allowance
+        (startRow (symbols p .ring) m (locator (symbols p .ring) (length points) (symbolsOf p points)) h) 1 outcome
     pub finished : outcome .row ≡ suc l
     pub are : updates ≡ outcome .updates
 

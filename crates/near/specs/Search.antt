@@ -64,7 +64,8 @@ module _ (F : Field) where
   abbrev pub lowest : ℕ → ℕ → ℕ → Curve (F .ring) → ℕ
   lowest N W i T = least W (λ v. some? N (slice (F .ring) i v T))
 
-  abbrev pub fits? : (N W i : ℕ) (T : Curve (F .ring)) (c : F .ring .Car) → Dec (value (F .ring) c N (slice (F .ring) i (lowest N W i T) T) ≡ F .ring .𝟘)
+  abbrev pub fits? : (N W i : ℕ) (T : Curve (F .ring)) (c : F .ring .Car)
+      → Dec (value (F .ring) c N (slice (F .ring) i (lowest N W i T) T) ≡ F .ring .𝟘)
   fits? N W i T c = F .same? (value (F .ring) c N (slice (F .ring) i (lowest N W i T) T)) (F .ring .𝟘)
 
 module _ {F : Field} (task : Task F) (N : ℕ) where

@@ -97,7 +97,8 @@ module _ (plan : Plan) (points word : List ℕ) where
   with curve chosen i c = opened taskFor (suc (plan .l)) (suc (plan .width)) (plan .k - suc i) (take i chosen) (curveOf plan curve) c
 
   abbrev pub kept : List ℕ → List (List ℕ)
-  kept chosen = choose (decLe (plan .t) (agreements taskFor (length points) (polynomial taskFor (take (plan .k) chosen)))) (take (plan .k) chosen ∷ []) []
+  kept chosen =
+      choose (decLe (plan .t) (agreements taskFor (length points) (polynomial taskFor (take (plan .k) chosen)))) (take (plan .k) chosen ∷ []) []
 
   pub record Searches (curve chosen : List ℕ) (i : ℕ) : Type 0 where
     pub received : Received plan points word

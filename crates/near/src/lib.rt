@@ -39,7 +39,8 @@ fn interpolate(
 ) -> Weighed
     requires { ⌜ First (startTable p (now points) (now word) k m l (now room)) 0 ⌝ }
     requires { ⌜ curveBytes (shape p (length (now points)) k m l) ≤ length (now curve) ⌝ }
-    ensures { λ back. ⌜ FoundCurve p (now (points .entry)) (now (word .entry)) k m l (now (room .entry)) (now (room .exit)) (now (curve .entry)) (now (curve .exit)) back ⌝ }
+    ensures { λ back. ⌜ FoundCurve p (now (points .entry)) (now (word .entry)) k m l (now (room .entry)) (now (room .exit)) (now (curve .entry))
+        (now (curve .exit)) back ⌝ }
 {
     let started = rows::start(p, points, word, k, m, l, room);
     let note = started.note;
@@ -75,7 +76,8 @@ pub fn list(
     room: &mut [u8],
     messages: &mut [u8],
 ) -> Near
-    ensures { λ back. ⌜ HasListed p (now (points .entry)) (now (word .entry)) k m l t (now (room .entry)) (now (room .exit)) (now (messages .entry)) (now (messages .exit)) back ⌝ }
+    ensures { λ back. ⌜ HasListed p (now (points .entry)) (now (word .entry)) k m l t (now (room .entry)) (now (room .exit)) (now (messages .entry))
+        (now (messages .exit)) back ⌝ }
 {
     let number = refusals::refuse_list(p, points, word, k, m, l, t, room, messages);
     if number != 0 {

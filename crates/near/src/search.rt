@@ -10,7 +10,8 @@ ghost use Rattle.poly.specs.Buffers.{Decided};
 ghost use Rattle.rows.specs.Bytes.{width};
 ghost use Rattle.near.specs.Lists.{Spelt, agreements as agreementsOf, polynomial};
 ghost use Rattle.near.specs.Search.{some?, lowest as lowestOf};
-ghost use Rattle.near.specs.Work.{curveOf, sliceOf, RootAt, Laid, Tries, Lifted, Shifted, Received, taskFor, after, with, kept, Room, Wrote, Searches, Leaves, planOf, foundOn, Runs, Ran};
+ghost use Rattle.near.specs.Work.{curveOf, sliceOf, RootAt, Laid, Tries, Lifted, Shifted, Received, taskFor, after, with, kept, Room, Wrote};
+ghost use Rattle.near.specs.Work.{Searches, Leaves, planOf, foundOn, Runs, Ran};
 use field::Symbol;
 
 pub struct Plan {
@@ -131,7 +132,8 @@ fn shift(curve: &mut [u8], plan: Plan, i: usize, c: Symbol)
 fn agreements(message: &[u8], points: &[u8], word: &[u8], plan: Plan) -> usize
     requires { ⌜ Received plan (now points) (now word) ⌝ }
     requires { ⌜ Spelt (plan .p) (plan .k) (now message) ⌝ }
-    ensures { λ r. ⌜ r ≡ agreementsOf (taskFor plan (now (points .entry)) (now (word .entry))) (length (now (points .entry))) (polynomial (taskFor plan (now (points .entry)) (now (word .entry))) (now (message .entry))) ⌝ }
+    ensures { λ r. ⌜ r ≡ agreementsOf (taskFor plan (now (points .entry)) (now (word .entry))) (length (now (points .entry)))
+        (polynomial (taskFor plan (now (points .entry)) (now (word .entry))) (now (message .entry))) ⌝ }
 {
     let mut count = 0;
     let mut s = 0;
@@ -168,7 +170,8 @@ fn keep(
     requires { ⌜ Received plan (now points) (now word) ⌝ }
     requires { ⌜ Spelt (plan .p) (plan .k) (take (plan .k) (now chosen)) ⌝ }
     requires { ⌜ Room plan count (kept plan (now points) (now word) (now chosen)) (now messages) ⌝ }
-    ensures { λ r. ⌜ Wrote plan count (kept plan (now (points .entry)) (now (word .entry)) (now (chosen .entry))) (now (messages .entry)) (now (messages .exit)) r ⌝ }
+    ensures { λ r. ⌜ Wrote plan count (kept plan (now (points .entry)) (now (word .entry)) (now (chosen .entry))) (now (messages .entry))
+        (now (messages .exit)) r ⌝ }
 {
     let k = plan.k;
     let message = &chosen[..k];
@@ -192,7 +195,8 @@ fn level(
 ) -> usize
     requires { ⌜ Searches plan (now points) (now word) (now curve) (now chosen) i ⌝ }
     requires { ⌜ Room plan count (after plan (now points) (now word) (now curve) (now chosen) i) (now messages) ⌝ }
-    ensures { λ r. ⌜ Leaves plan i count (after plan (now (points .entry)) (now (word .entry)) (now (curve .entry)) (now (chosen .entry)) i) (now (curve .entry)) (now (curve .exit)) (now (chosen .entry)) (now (chosen .exit)) (now (messages .entry)) (now (messages .exit)) r ⌝ }
+    ensures { λ r. ⌜ Leaves plan i count (after plan (now (points .entry)) (now (word .entry)) (now (curve .entry)) (now (chosen .entry)) i)
+        (now (curve .entry)) (now (curve .exit)) (now (chosen .entry)) (now (chosen .exit)) (now (messages .entry)) (now (messages .exit)) r ⌝ }
 {
     let low = lowest(curve, plan, i);
     let mut found = count;
@@ -221,7 +225,8 @@ fn open(
     requires { ⌜ Searches plan (now points) (now word) (now curve) (now chosen) i ⌝ }
     requires { ⌜ c < plan .p ⌝ }
     requires { ⌜ Room plan count (with plan (now points) (now word) (now curve) (now chosen) i c) (now messages) ⌝ }
-    ensures { λ r. ⌜ Leaves plan i count (with plan (now (points .entry)) (now (word .entry)) (now (curve .entry)) (now (chosen .entry)) i c) (now (curve .entry)) (now (curve .exit)) (now (chosen .entry)) (now (chosen .exit)) (now (messages .entry)) (now (messages .exit)) r ⌝ }
+    ensures { λ r. ⌜ Leaves plan i count (with plan (now (points .entry)) (now (word .entry)) (now (curve .entry)) (now (chosen .entry)) i c)
+        (now (curve .entry)) (now (curve .exit)) (now (chosen .entry)) (now (chosen .exit)) (now (messages .entry)) (now (messages .exit)) r ⌝ }
 {
     let symbol = Symbol { value: c };
     chosen[i] = c;
@@ -263,7 +268,8 @@ pub fn run(
 ) -> u8
     requires { ⌜ m ≤ l ⌝ }
     requires { ⌜ Runs (planOf p (length (now points)) k m l t) (now points) (now word) (now curve) (now messages) ⌝ }
-    ensures { λ r. ⌜ Ran k (foundOn (planOf p (length (now (points .entry))) k m l t) (now (points .entry)) (now (word .entry)) (now (curve .entry))) (now (messages .entry)) (now (messages .exit)) r ⌝ }
+    ensures { λ r. ⌜ Ran k (foundOn (planOf p (length (now (points .entry))) k m l t) (now (points .entry)) (now (word .entry))
+        (now (curve .entry))) (now (messages .entry)) (now (messages .exit)) r ⌝ }
 {
     let mut chosen = [0u8; 32];
     let plan = plan_of(p, points.len(), k, m, l, t);

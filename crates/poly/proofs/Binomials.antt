@@ -38,14 +38,17 @@ module _ {R : Ring} (L : RingLaws R) where
   infixl 70 _⊗_
   infix 75 ⊖_
   part-zero : (a : Car) (f : Seq R) (r : ℕ) → part R a 0 f (suc r) ≡ a ⊗ part R a 0 (tail R f) r
-  part-zero a f r = rw (binomial-zero (suc r), binomial-zero r, multiple-one, multiple-one, sub-zero (suc r), sub-zero r, pow-suc R a r) (mul-assoc L a (pow R a r) (f (suc r)))
+  part-zero a f r =
+      rw (binomial-zero (suc r), binomial-zero r, multiple-one, multiple-one, sub-zero (suc r), sub-zero r, pow-suc R a r)
+      (mul-assoc L a (pow R a r) (f (suc r)))
 
   part-suc : (a : Car) (i : ℕ) (f : Seq R) (r : ℕ) → part R a (suc i) f (suc r) ≡ part R a i (tail R f) r ⊕ a ⊗ part R a (suc i) (tail R f) r
   part-suc a i f r =
       rw (binomial-suc r i, suc-sub-suc r i, multiple-add L (binomial r i) (binomial r (suc i)) (pow R a (r - i) ⊗ f (suc r)))
       (ap (λ (x : Car). part R a i (tail R f) r ⊕ x) (go (decLt i r) ∙ multiple-scale L (binomial r (suc i)) a (pow R a (r - suc i) ⊗ f (suc r))))
     where
-      go : Dec (i < r) → multiple R (binomial r (suc i)) (pow R a (r - i) ⊗ f (suc r)) ≡ multiple R (binomial r (suc i)) (a ⊗ (pow R a (r - suc i) ⊗ f (suc r)))
+      go : Dec (i < r) → multiple R (binomial r (suc i)) (pow R a (r - i) ⊗ f (suc r))
+          ≡ multiple R (binomial r (suc i)) (a ⊗ (pow R a (r - suc i) ⊗ f (suc r)))
       go (yes l) =
           let e : r - i ≡ suc (r - suc i) = omega arith in
           ap (multiple R (binomial r (suc i))) (rw (e, pow-suc R a (r - suc i)) (mul-assoc L a (pow R a (r - suc i)) (f (suc r))))
@@ -55,7 +58,8 @@ module _ {R : Ring} (L : RingLaws R) where
   shift-binomial a zero f i = rw (shift-zero R a f, sum-zero R (part R a i f)) (zeroS-at R i)
   shift-binomial a (suc N) f zero =
       shift-at-zero L a N f
-      ∙ ap₂ _⊕_ start (ap (λ (x : Car). a ⊗ x) (shift-binomial a N (tail R f) 0) ∙ sym (sum-mul L a N (part R a 0 (tail R f))) ∙ sum-cong L N (λ r. a ⊗ part R a 0 (tail R f) r) (λ r. part R a 0 f (suc r)) (λ r l. sym (part-zero a f r)))
+      ∙ ap₂ _⊕_ start (ap (λ (x : Car). a ⊗ x) (shift-binomial a N (tail R f) 0) ∙ sym (sum-mul L a N (part R a 0 (tail R f)))
+      ∙ sum-cong L N (λ r. a ⊗ part R a 0 (tail R f) r) (λ r. part R a 0 f (suc r)) (λ r l. sym (part-zero a f r)))
       ∙ sym (sum-front L N (part R a 0 f))
     where
       start : f 0 ≡ part R a 0 f 0
@@ -65,7 +69,8 @@ module _ {R : Ring} (L : RingLaws R) where
       ∙ ap₂ (λ (x y : Car). x ⊕ a ⊗ y) (shift-binomial a N (tail R f) i) (shift-binomial a N (tail R f) (suc i))
       ∙ ap (λ (x : Car). sum R N (part R a i (tail R f)) ⊕ x) (sym (sum-mul L a N (part R a (suc i) (tail R f))))
       ∙ sym (sum-add L N (part R a i (tail R f)) (λ r. a ⊗ part R a (suc i) (tail R f) r))
-      ∙ sum-cong L N (λ r. part R a i (tail R f) r ⊕ a ⊗ part R a (suc i) (tail R f) r) (λ r. part R a (suc i) f (suc r)) (λ r l. sym (part-suc a i f r))
+      ∙ sum-cong L N (λ r. part R a i (tail R f) r ⊕ a ⊗ part R a (suc i) (tail R f) r) (λ r. part R a (suc i) f (suc r))
+      (λ r l. sym (part-suc a i f r))
       ∙ sym (zero-add L (sum R N (λ r. part R a (suc i) f (suc r))))
       ∙ ap (λ (x : Car). x ⊕ sum R N (λ r. part R a (suc i) f (suc r))) start
       ∙ sym (sum-front L N (part R a (suc i) f))

@@ -75,7 +75,8 @@ module _ {R : Ring} (L : RingLaws R) where
   pub below-mul-tight : (N M : ℕ) (f g : Seq R) → Below R (suc N) f → Below R M g → Below R (N + M) (mulS R f g)
   below-mul-tight zero M f g hf hg zero l = rw (mulS-zero R f g, hg zero (omega arith)) (mul-zero L _)
   below-mul-tight (suc N) M f g hf hg zero l = absurd (omega arith)
-  below-mul-tight zero M f g hf hg (suc i) l = rw (mulS-suc R f g i, hg (suc i) (omega arith), below-zero (below-tail hf), zero-mul (series L) g, zeroS-at R i, mul-zero) (add-zero L 𝟘)
+  below-mul-tight zero M f g hf hg (suc i) l =
+      rw (mulS-suc R f g i, hg (suc i) (omega arith), below-zero (below-tail hf), zero-mul (series L) g, zeroS-at R i, mul-zero) (add-zero L 𝟘)
   below-mul-tight (suc N) M f g hf hg (suc i) l =
       rw (mulS-suc R f g i, hg (suc i) (omega arith), below-mul-tight N M (tail R f) g (below-tail hf) hg i (omega arith), mul-zero) (add-zero L 𝟘)
 

@@ -18,7 +18,8 @@ use Rattle.poly.specs.Buffers.{AllBelow, Factors, Kept, Untouched}
 
 module _ (p : ℕ) (xs : List ℕ) where
   -- the bytes of xs are the coefficients of f
-  pub symbols-are : (f : Seq (symbols p .ring)) → Below (symbols p .ring) (length xs) f → ((i : ℕ) → i < length xs → getD xs i 0 ≡ f i .byte) → symbolsOf p xs ≡ f
+  pub symbols-are : (f : Seq (symbols p .ring)) → Below (symbols p .ring) (length xs) f → ((i : ℕ) → i < length xs → getD xs i 0 ≡ f i .byte)
+      → symbolsOf p xs ≡ f
   symbols-are f short is = fun-ext (λ i. go i (decLt i (length xs)))
     where
       go : (i : ℕ) → Dec (i < length xs) → symbol p (getD xs i 0) ≡ f i
@@ -57,7 +58,8 @@ pub untouched-then : {size : ℕ} {xs ys zs : List ℕ} → Untouched size xs ys
 untouched-then a b = record { long = b .long ∙ a .long; same = λ q h. b .same q h ∙ a .same q h }
 
 -- and with the first bytes the list is fixed
-pub untouched-unique : (size : ℕ) {before after also : List ℕ} → Untouched size before after → Untouched size before also → ((q : ℕ) → q < size → getD after q 0 ≡ getD also q 0) → after ≡ also
+pub untouched-unique : (size : ℕ) {before after also : List ℕ} → Untouched size before after → Untouched size before also
+    → ((q : ℕ) → q < size → getD after q 0 ≡ getD also q 0) → after ≡ also
 untouched-unique size {before} {after} {also} a b low = ext-getD 0 after also (a .long ∙ sym (b .long)) (λ q h. go q (decLt q size))
   where
     go : (q : ℕ) → Dec (q < size) → getD after q 0 ≡ getD also q 0
@@ -70,7 +72,8 @@ region-part {p} {at} by h r =
     let w = r .within in
     record { within = omega arith; below = λ i k. let e : at + by + i ≡ at + (by + i) = omega arith in rw e (r .below (by + i) (omega arith)) }
 
-pub factors-part : {p : ℕ} {f : List ℕ} {at len : ℕ} (by : ℕ) {short : ℕ} {xs : List ℕ} → by + short ≤ len → Factors p f at len xs → Factors p f (at + by) short xs
+pub factors-part : {p : ℕ} {f : List ℕ} {at len : ℕ} (by : ℕ) {short : ℕ} {xs : List ℕ} → by + short ≤ len → Factors p f at len xs
+    → Factors p f (at + by) short xs
 factors-part by h a = record { size = a .size; factor = a .factor; short = omega (arith, a .short); region = region-part by h (a .region) }
 
 -- symbols' bytes in a region
@@ -95,4 +98,5 @@ module _ (p a n : ℕ) (f : Seq (symbols p .ring)) where
       rw (m, t, plusBytes, symbol-timesBytes, symbol-byte, e, add-zero)
 
   pub horner-all : horner 0 ≡ value (symbols p .ring) (symbol p a) n f
-  horner-all = let z : n - 0 ≡ n = omega arith in let t : _≡_ {A = Seq (symbols p .ring)} (λ j. f (0 + j)) f = fun-ext (λ j. ap f (zero-add j)) in rw (z, t)
+  horner-all = let z : n - 0 ≡ n = omega arith in let t : _≡_ {A = Seq (symbols p .ring)} (λ j. f (0 + j)) f = fun-ext (λ j. ap f (zero-add j)) in
+      rw (z, t)

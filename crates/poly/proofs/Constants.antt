@@ -118,7 +118,8 @@ module _ {R : Ring} (L : RingLaws R) where
   xPlus-is a = cons-ext (xPlus R a) (addS R (xS R) (constS R a)) (sym (zero-add L a)) (λ n. sym (add-zero L (oneS R n)))
 
   pub xPlus-add : (b c : Car) → xPlus R (b ⊕ c) ≡ addS R (xPlus R b) (constS R c)
-  xPlus-add b c = rw (xPlus-is (b ⊕ c), xPlus-is b, const-add b c) (ring (series L) (xS R ∷ constS R b ∷ constS R c ∷ []) (search readings depth 25) tt)
+  xPlus-add b c =
+      rw (xPlus-is (b ⊕ c), xPlus-is b, const-add b c) (ring (series L) (xS R ∷ constS R b ∷ constS R c ∷ []) (search readings depth 25) tt)
 
   pub lin-is : (a : Car) → lin R a ≡ addS R (xS R) (negS R (constS R a))
   lin-is a = sym (xPlus-neg R a) ∙ xPlus-is (⊖ a) ∙ rw (const-neg a)

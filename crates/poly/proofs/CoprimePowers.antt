@@ -19,7 +19,8 @@ use Rattle.poly.proofs.Bounds.{below-zero, below-null, below-same, belo
 use Rattle.poly.proofs.Division.{quot, below-quot, divide-root}
 use Rattle.poly.proofs.Shift.{shift, shift-null, shift-mul, shift-more, shift-any, shift-value, shift-lin}
 use Rattle.poly.proofs.Orders.{Ord, ord-mul, Regular, ord-cancel, regular-one, no-zero-divisors}
-use Rattle.poly.proofs.Degrees.{sumBelow, sumBelow-zero, sumBelow-suc, sumBelow-ones, Monic, monic-same, monic-lin, monic-pow, monic-prod, Leads, degree, lead-mul}
+use Rattle.poly.proofs.Degrees.{sumBelow, sumBelow-zero, sumBelow-suc, sumBelow-ones, Monic, monic-same, monic-lin, monic-pow, monic-prod}
+use Rattle.poly.proofs.Degrees.{Leads, degree, lead-mul}
 
 module _ (R : Ring) where
   open Ring R using (Car, plus as _⊕_, neg as ⊖_)
@@ -46,12 +47,15 @@ module _ (R : Ring) where
 
 -- over a field the differences of distinct points cancel
 pub distinct-apart : {F : Field} (Φ : FieldLaws F) (n : ℕ) (a : ℕ → F .ring .Car) → Distinct (F .ring) n a → Apart (F .ring) n a
-distinct-apart {F} Φ n a inj i j l k ne x = no-zero-divisor Φ (F .ring .plus (a i) (F .ring .neg (a j))) x (λ z. ne (inj i j l k (difference-zero (Φ .ring) (a i) (a j) z)))
+distinct-apart {F} Φ n a inj i j l k ne x =
+    no-zero-divisor Φ (F .ring .plus (a i) (F .ring .neg (a j))) x (λ z. ne (inj i j l k (difference-zero (Φ .ring) (a i) (a j) z)))
 
 -- so do the differences of distinct polynomials over a field
-pub polynomials-apart : {F : Field} (Φ : FieldLaws F) (n D : ℕ) (g : ℕ → Seq (F .ring)) → ((i : ℕ) → i < n → Below (F .ring) D (g i)) → Distinct (Series (F .ring)) n g → Apart (Series (F .ring)) n g
+pub polynomials-apart : {F : Field} (Φ : FieldLaws F) (n D : ℕ) (g : ℕ → Seq (F .ring)) → ((i : ℕ) → i < n → Below (F .ring) D (g i))
+    → Distinct (Series (F .ring)) n g → Apart (Series (F .ring)) n g
 polynomials-apart {F} Φ n D g h inj i j l k ne =
-    no-zero-divisors Φ D (addS (F .ring) (g i) (negS (F .ring) (g j))) (below-add (Φ .ring) {N = D} {f = g i} {g = negS (F .ring) (g j)} (h i l) (below-neg (Φ .ring) {N = D} {f = g j} (h j k)))
+    no-zero-divisors Φ D (addS (F .ring) (g i) (negS (F .ring) (g j)))
+    (below-add (Φ .ring) {N = D} {f = g i} {g = negS (F .ring) (g j)} (h i l) (below-neg (Φ .ring) {N = D} {f = g j} (h j k)))
     (λ z. ne (inj i j l k (difference-zero (series (Φ .ring)) (g i) (g j) z)))
 
 module _ {R : Ring} (L : RingLaws R) where
@@ -74,9 +78,11 @@ module _ {R : Ring} (L : RingLaws R) where
       }
 
   -- x + b for x in f = (x - a) q
-  shift-factor : (a b : Car) (N : ℕ) (f q : Seq R) → Below R N q → f ≡ mulS R (lin R a) q → shift R b (suc N) f ≡ mulS R (xPlus R (b ⊕ ⊖ a)) (shift R b N q)
+  shift-factor : (a b : Car) (N : ℕ) (f q : Seq R) → Below R N q → f ≡ mulS R (lin R a) q
+      → shift R b (suc N) f ≡ mulS R (xPlus R (b ⊕ ⊖ a)) (shift R b N q)
   shift-factor a b N f q hq e =
-      sym (shift-more L b (suc N) (2 + N) f (below-same L e (λ i l. below-mul-tight L 1 N (lin R a) q (below-lin L a) hq i (omega arith))) (omega arith))
+      sym (shift-more L b (suc N) (2 + N) f (below-same L e (λ i l. below-mul-tight L 1 N (lin R a) q (below-lin L a) hq i (omega arith)))
+      (omega arith))
       ∙ ap (shift R b (2 + N)) e
       ∙ shift-mul L b 2 N (lin R a) q (below-lin L a) hq
       ∙ rw (shift-lin L a b)
@@ -86,14 +92,16 @@ module _ {R : Ring} (L : RingLaws R) where
   low a (suc i) l = absurd (omega arith)
 
   -- at a the order of the quotient is one less
-  order-same : (a : Car) (m N : ℕ) (f q : Seq R) → Below R N q → f ≡ mulS R (lin R a) q → Ord R (suc m) (shift R a (suc N) f) → Ord R m (shift R a N q)
+  order-same : (a : Car) (m N : ℕ) (f q : Seq R) → Below R N q → f ≡ mulS R (lin R a) q → Ord R (suc m) (shift R a (suc N) f)
+      → Ord R m (shift R a N q)
   unfolding xPlus consS oneS
   order-same a m N f q hq e o =
       ord-cancel L 1 m (xPlus R (a ⊕ ⊖ a)) (shift R a N q) (low a) (regular-one L)
       (λ i l. ap (λ (g : Seq R). g i) (sym (shift-factor a a N f q hq e)) ∙ o i (omega arith))
 
   -- at another place it is the same
-  order-other : (a b : Car) (m N : ℕ) (f q : Seq R) → Below R N q → f ≡ mulS R (lin R a) q → Regular R (b ⊕ ⊖ a) → Ord R m (shift R b (suc N) f) → Ord R m (shift R b N q)
+  order-other : (a b : Car) (m N : ℕ) (f q : Seq R) → Below R N q → f ≡ mulS R (lin R a) q → Regular R (b ⊕ ⊖ a) → Ord R m (shift R b (suc N) f)
+      → Ord R m (shift R b N q)
   unfolding xPlus consS
   order-other a b m N f q hq e r o =
       ord-cancel L 0 m (xPlus R (b ⊕ ⊖ a)) (shift R b N q) (λ i l. absurd (omega arith)) r
@@ -107,9 +115,12 @@ module _ {R : Ring} (L : RingLaws R) where
 
   -- order at least m at a gives the factor (x - a)^m, and the quotient has at the other places the orders that f has
   pub factorAt-divides : (m N : ℕ) (a : Car) (f : Seq R) → Below R N f → Ord R m (shift R a N f)
-      → (d : Divides R (N - m) (factorAt R a m) f) × ((b : Car) (k : ℕ) → Regular R (b ⊕ ⊖ a) → Ord R k (shift R b N f) → Ord R k (shift R b (N - m) (d .by)))
-  factorAt-divides zero N a f h o =
-      (record { by = f; short = rw (sub-zero N) h; is = rw (pow-zero (Series R) (lin R a)) (sym (one-mul (series L) f)) }, λ b k r p. rw (sub-zero N) p)
+      → (d : Divides R (N - m) (factorAt R a m) f)
+      × ((b : Car) (k : ℕ) → Regular R (b ⊕ ⊖ a) → Ord R k (shift R b N f) → Ord R k (shift R b (N - m) (d .by)))
+  factorAt-divides zero N a f h o = (
+    record { by = f; short = rw (sub-zero N) h; is = rw (pow-zero (Series R) (lin R a)) (sym (one-mul (series L) f)) },
+    λ b k r p. rw (sub-zero N) p,
+  )
   factorAt-divides (suc m) zero a f h o = (
     record { by = zeroS R; short = below-null L (zero - suc m); is = below-zero L h ∙ sym (mul-zero (series L) (factorAt R a (suc m))) },
     λ b k r p i l. rw (shift-null L b (zero - suc m)) (below-null L zero i (omega arith)),
@@ -122,7 +133,8 @@ module _ {R : Ring} (L : RingLaws R) where
         record {
           by = r .0 .by;
           short = rw (suc-sub-suc N m) (r .0 .short);
-          is = e ∙ ap (mulS R (lin R a)) (r .0 .is) ∙ sym (mul-assoc (series L) (lin R a) (factorAt R a m) (r .0 .by)) ∙ rw (pow-suc (Series R) (lin R a) m);
+          is = e ∙ ap (mulS R (lin R a)) (r .0 .is) ∙ sym (mul-assoc (series L) (lin R a) (factorAt R a m) (r .0 .by))
+              ∙ rw (pow-suc (Series R) (lin R a) m);
         },
         λ b k n p. rw (suc-sub-suc N m) (r .1 b k n (order-other a b k N f q hq e n p)),
       )
@@ -134,19 +146,26 @@ module _ {R : Ring} (L : RingLaws R) where
       let p : Seq R = mulS R (factorAt R a m) (d .by) in
       let P : ℕ = suc m + N in
       let hp : Below R P p = below-mul L (suc m) N (factorAt R a m) (d .by) (monic-factorAt a m .rest) (d .short) in
-      let e : f ≡ mulS R (lin R a) p = d .is ∙ ap (λ (g : Seq R). mulS R g (d .by)) (pow-suc (Series R) (lin R a) m) ∙ mul-assoc (series L) (lin R a) (factorAt R a m) (d .by) in
+      let e : f ≡ mulS R (lin R a) p =
+      d .is ∙ ap (λ (g : Seq R). mulS R g (d .by)) (pow-suc (Series R) (lin R a) m) ∙ mul-assoc (series L) (lin R a) (factorAt R a m) (d .by) in
       let hf : Below R (suc P) f = below-same L e (λ i l. below-mul-tight L 1 P (lin R a) p (below-lin L a) hp i (omega arith)) in
       ap (λ (g : Seq R). g i) (shift-any L a K (suc P) f h hf ∙ shift-factor a a P f p hp e)
-      ∙ ord-mul L 1 m (xPlus R (a ⊕ ⊖ a)) (shift R a P p) (low a) (factorAt-order m P N a p hp (record { by = d .by; short = d .short; is = refl })) i (omega arith)
+      ∙ ord-mul L 1 m (xPlus R (a ⊕ ⊖ a)) (shift R a P p) (low a)
+      (factorAt-order m P N a p hp (record { by = d .by; short = d .short; is = refl })) i (omega arith)
 
   -- orders at places that are apart give the product as a factor
   pub factorsAt-divide : (n N : ℕ) (a : ℕ → Car) (m : ℕ → ℕ) (f : Seq R) → Apart R n a → Below R N f
       → ((s : ℕ) → s < n → Ord R (m s) (shift R (a s) N f)) → Divides R (N - sumBelow n m) (factorsAt R n a m) f
   factorsAt-divide zero N a m f apart h o =
-      record { by = f; short = rw (sumBelow-zero m, sub-zero N) h; is = rw (prod-zero (Series R) (λ s. factorAt R (a s) (m s))) (sym (one-mul (series L) f)) }
+      record {
+        by = f;
+        short = rw (sumBelow-zero m, sub-zero N) h;
+        is = rw (prod-zero (Series R) (λ s. factorAt R (a s) (m s))) (sym (one-mul (series L) f));
+      }
   factorsAt-divide (suc n) N a m f apart h o =
       let r = factorAt-divides (m n) N (a n) f h (o n (omega arith)) in
-      let d = factorsAt-divide n (N - m n) a m (r .0 .by) (λ i j l k. apart i j (omega arith) (omega arith)) (r .0 .short) (λ s l. r .1 (a s) (m s) (apart s n (omega arith) (omega arith) (λ e. omega arith)) (o s (omega arith))) in
+      let d = factorsAt-divide n (N - m n) a m (r .0 .by) (λ i j l k. apart i j (omega arith) (omega arith)) (r .0 .short)
+      (λ s l. r .1 (a s) (m s) (apart s n (omega arith) (omega arith) (λ e. omega arith)) (o s (omega arith))) in
       let t = sumBelow-suc n m in
       record {
         by = d .by;
@@ -161,15 +180,20 @@ module _ {R : Ring} (L : RingLaws R) where
       turn x y z = ring (series L) (x ∷ y ∷ z ∷ []) (search readings depth 25) tt
 
   -- the product as a factor gives the order at each place
-  pub factorsAt-order : (n K N : ℕ) (a : ℕ → Car) (m : ℕ → ℕ) (f : Seq R) → Below R K f → Divides R N (factorsAt R n a m) f → (s : ℕ) → s < n → Ord R (m s) (shift R (a s) K f)
+  pub factorsAt-order : (n K N : ℕ) (a : ℕ → Car) (m : ℕ → ℕ) (f : Seq R) → Below R K f → Divides R N (factorsAt R n a m) f → (s : ℕ) → s < n
+      → Ord R (m s) (shift R (a s) K f)
   factorsAt-order zero K N a m f h d s l = absurd (omega arith)
-  factorsAt-order (suc n) K N a m f h d s l = go (ℕ-discrete s n) (factorsAt-order n K (suc (m n) + N) a m f h (divides-left N (suc (m n)) (factorsAt R n a m) (factorAt R (a n) (m n)) f (monic-factorAt (a n) (m n) .rest) e) s)
+  factorsAt-order (suc n) K N a m f h d s l =
+      go (ℕ-discrete s n) (factorsAt-order n K (suc (m n) + N) a m f h
+      (divides-left N (suc (m n)) (factorsAt R n a m) (factorAt R (a n) (m n)) f (monic-factorAt (a n) (m n) .rest) e) s)
     where
       e : Divides R N (mulS R (factorsAt R n a m) (factorAt R (a n) (m n))) f
       e = record { by = d .by; short = d .short; is = d .is ∙ rw (prod-suc (Series R) n (λ s. factorAt R (a s) (m s))) }
 
       go : Dec (s ≡ n) → (s < n → Ord R (m s) (shift R (a s) K f)) → Ord R (m s) (shift R (a s) K f)
-      go (yes q) ih = rw q (factorAt-order (m n) K (suc (sumBelow n m) + N) (a n) f h (divides-right N (suc (sumBelow n m)) (factorsAt R n a m) (factorAt R (a n) (m n)) f (monic-factorsAt n a m .rest) e))
+      go (yes q) ih =
+          rw q (factorAt-order (m n) K (suc (sumBelow n m) + N) (a n) f h
+          (divides-right N (suc (sumBelow n m)) (factorsAt R n a m) (factorAt R (a n) (m n)) f (monic-factorsAt n a m .rest) e))
       go (no q) ih = ih (omega arith)
 
   -- a polynomial that vanishes, counted with multiplicity, as often as it may have coefficients, is zero
@@ -187,7 +211,8 @@ module _ {R : Ring} (L : RingLaws R) where
       once s l (suc i) k = absurd (omega arith)
 
   -- a polynomial of degree at most l that is not zero has at most l roots
-  pub roots-at-most : (l n : ℕ) (a : ℕ → Car) (f : Seq R) → f ≢ zeroS R → Below R (suc l) f → Apart R n a → ((s : ℕ) → s < n → value R (a s) (suc l) f ≡ 𝟘) → n ≤ l
+  pub roots-at-most : (l n : ℕ) (a : ℕ → Car) (f : Seq R) → f ≢ zeroS R → Below R (suc l) f → Apart R n a
+      → ((s : ℕ) → s < n → value R (a s) (suc l) f ≡ 𝟘) → n ≤ l
   roots-at-most l n a f ne h apart root = go (decLe n l)
     where
       go : Dec (n ≤ l) → n ≤ l
@@ -210,7 +235,8 @@ module _ {F : Field} (Φ : FieldLaws F) where
       go (inr (e, q)) = high (decLe (d + e) t)
         where
           at : f (d + e) ≡ div .by e
-          at = ap (λ (k : Seq R). k (d + e)) (div .is) ∙ lead-mul L d e g (div .by) (mon .rest) (q .rest) ∙ ap (λ (x : R .Car). R .times x (div .by e)) (mon .top) ∙ one-mul L (div .by e)
+          at = ap (λ (k : Seq R). k (d + e)) (div .is) ∙ lead-mul L d e g (div .by) (mon .rest) (q .rest)
+              ∙ ap (λ (x : R .Car). R .times x (div .by e)) (mon .top) ∙ one-mul L (div .by e)
 
           high : Dec (d + e ≤ t) → d ≤ t
           high (yes le) = omega arith

@@ -84,7 +84,8 @@ module _ {R : Ring} (L : RingLaws R) where
   pub monic-prod : (n : ℕ) (d : ℕ → ℕ) (g : ℕ → Seq R) → ((i : ℕ) → Monic R (d i) (g i)) → Monic R (sumBelow n d) (prod (Series R) n g)
   monic-prod zero d g h = monic-same L (sumBelow-zero d) (prod-zero (Series R) g) (monic-one L)
   monic-prod (suc n) d g h =
-      monic-same L (sumBelow-suc n d) (prod-suc (Series R) n g) (monic-mul L (sumBelow n d) (d n) (prod (Series R) n g) (g n) (monic-prod n d g h) (h n))
+      monic-same L (sumBelow-suc n d) (prod-suc (Series R) n g)
+      (monic-mul L (sumBelow n d) (d n) (prod (Series R) n g) (g n) (monic-prod n d g h) (h n))
 
   pub monic-locator : (n : ℕ) (a : ℕ → R .Car) → Monic R n (locator R n a)
   monic-locator n a = rw (sumBelow-ones n) at (monic-prod n (λ s. 1) (λ s. lin R (a s)) (λ s. monic-lin L (a s)))

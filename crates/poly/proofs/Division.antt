@@ -37,14 +37,25 @@ module _ {R : Ring} (L : RingLaws R) where
   -- the quotient is one shorter
   pub below-quot : (a : Car) (N : ℕ) (f : Seq R) → Below R N (quot R a (suc N) f)
   unfolding constS
-  below-quot a zero f = below-same L (quot-suc R a zero f ∙ rw (value-zero R a (tail R f), quot-zero R a (tail R f)) (const-zero L)) (below-null L zero)
+  below-quot a zero f =
+      below-same L (quot-suc R a zero f ∙ rw (value-zero R a (tail R f), quot-zero R a (tail R f)) (const-zero L)) (below-null L zero)
   below-quot a (suc N) f = below-same L (quot-suc R a (suc N) f) (below-cons L (value R a (suc N) (tail R f)) (below-quot a N (tail R f)))
 
   pub divide : (a : Car) (N : ℕ) (f : Seq R) → Below R N f → f ≡ constS R (value R a N f) ⊞ lin R a ⊠ quot R a N f
-  divide a zero f h = rw (below-zero L h, value-zero R a (zeroS R), quot-zero R a (zeroS R), const-zero L) (ring (series L) (lin R a ∷ []) (search readings depth 25) tt)
+  divide a zero f h =
+      rw (below-zero L h, value-zero R a (zeroS R), quot-zero R a (zeroS R), const-zero L)
+      (ring (series L) (lin R a ∷ []) (search readings depth 25) tt)
   divide a (suc N) f h =
-      cons-tail L f ∙ rw (value-suc R a N f, quot-suc R a N f, cons-is L (value R a N (tail R f)) (quot R a N (tail R f)), const-add L (f zero) (a ⊗ value R a N (tail R f)), const-mul L a (value R a N (tail R f)), lin-is L a)
-      (finish (constS R (f zero)) (xS R) (tail R f) (constS R a) (constS R (value R a N (tail R f))) (quot R a N (tail R f)) (divide a N (tail R f) (below-tail L h) ∙ rw (lin-is L a)))
+      cons-tail L f ∙ rw (
+        value-suc R a N f,
+        quot-suc R a N f,
+        cons-is L (value R a N (tail R f)) (quot R a N (tail R f)),
+        const-add L (f zero) (a ⊗ value R a N (tail R f)),
+        const-mul L a (value R a N (tail R f)),
+        lin-is L a,
+      )
+      (finish (constS R (f zero)) (xS R) (tail R f) (constS R a) (constS R (value R a N (tail R f))) (quot R a N (tail R f))
+      (divide a N (tail R f) (below-tail L h) ∙ rw (lin-is L a)))
     where
       finish : (c x t d e q : Seq R) → t ≡ e ⊞ (x ⊞ ⊟ d) ⊠ q → c ⊞ x ⊠ t ≡ c ⊞ d ⊠ e ⊞ (x ⊞ ⊟ d) ⊠ (e ⊞ x ⊠ q)
       finish c x t d e q p = rw p (ring (series L) (c ∷ x ∷ d ∷ e ∷ q ∷ []) (search readings depth 25) tt)

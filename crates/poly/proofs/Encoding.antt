@@ -24,7 +24,12 @@ pub record Accepted (p : ℕ) (points message word : List ℕ) : Type 0 where
 pub accepted : {p : ℕ} {points message word : List ℕ} {n : ℕ} → First (encodeTable p points message word) n → n ≡ 0 → Accepted p points message word
 accepted {p} {points} {message} {word} first z =
     let (size, (count, (degree, (large, (repeated, (short, _)))))) = first-passed (encodeTable p points message word) (search needs) first z in
-    record { size = listed-passed size; points-below = below-passed (λ t. large (inl t)); message-below = below-passed (λ t. large (inr t)); room = omega arith }
+    record {
+      size = listed-passed size;
+      points-below = below-passed (λ t. large (inl t));
+      message-below = below-passed (λ t. large (inr t));
+      room = omega arith;
+    }
 
 -- the word after s places: the first s bytes are values, and the rest is as it was
 pub record Written (p : ℕ) (points message before : List ℕ) (s : ℕ) (after : List ℕ) : Type 0 where

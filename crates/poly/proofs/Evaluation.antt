@@ -98,7 +98,16 @@ module _ {R : Ring} (L : RingLaws R) (a : R .Car) where
       rw (n-zero-add K, sum-zero R (λ j. g j ⊗ pow R a j), pow-zero R a, fun-ext {f = λ i. g (zero + i)} {g = g} (λ i. ap g (n-zero-add i)))
       (ring L (value R a K g ∷ []) (search reading depth 25) tt)
   value-split (suc m) K g =
-      rw (suc-add m K, value-suc R a (m + K) g, value-split m K (tail R g), sum-front L m (λ j. g j ⊗ pow R a j), inner, pow-zero R a, pow-suc R a m, ← later)
+      rw (
+        suc-add m K,
+        value-suc R a (m + K) g,
+        value-split m K (tail R g),
+        sum-front L m (λ j. g j ⊗ pow R a j),
+        inner,
+        pow-zero R a,
+        pow-suc R a m,
+        ← later,
+      )
       (finish (g zero) (pow R a m) (sum R m (λ j. g (suc j) ⊗ pow R a j)) (value R a K (λ i. g (suc (m + i)))))
     where
       later : _≡_ {A = Seq R} (λ i. g (suc (m + i))) (λ i. g (suc m + i))
@@ -110,7 +119,8 @@ module _ {R : Ring} (L : RingLaws R) (a : R .Car) where
 
       inner : sum R m (λ i. g (suc i) ⊗ pow R a (suc i)) ≡ a ⊗ sum R m (λ j. g (suc j) ⊗ pow R a j)
       inner =
-          sum-cong L m (λ i. g (suc i) ⊗ pow R a (suc i)) (λ i. a ⊗ (g (suc i) ⊗ pow R a i)) (λ i l. rw (pow-suc R a i) (mul-left-comm L (g (suc i)) a (pow R a i)))
+          sum-cong L m (λ i. g (suc i) ⊗ pow R a (suc i)) (λ i. a ⊗ (g (suc i) ⊗ pow R a i))
+          (λ i l. rw (pow-suc R a i) (mul-left-comm L (g (suc i)) a (pow R a i)))
           ∙ sum-mul L a m (λ j. g (suc j) ⊗ pow R a j)
 
 module _ {R : Ring} (L : RingLaws R) where
@@ -122,7 +132,14 @@ module _ {R : Ring} (L : RingLaws R) where
   pub value-powers : (h a : Car) (N : ℕ) (f : Seq R) → value R a N (λ j. pow R h j ⊗ f j) ≡ value R (h ⊗ a) N f
   value-powers h a zero f = value-zero R a (λ j. pow R h j ⊗ f j) ∙ sym (value-zero R (h ⊗ a) f)
   value-powers h a (suc N) f =
-      rw (value-suc R a N (λ j. pow R h j ⊗ f j), out, value-scale L a N h (λ j. pow R h j ⊗ f (suc j)), value-powers h a N (tail R f), value-suc R (h ⊗ a) N f, pow-zero R h)
+      rw (
+        value-suc R a N (λ j. pow R h j ⊗ f j),
+        out,
+        value-scale L a N h (λ j. pow R h j ⊗ f (suc j)),
+        value-powers h a N (tail R f),
+        value-suc R (h ⊗ a) N f,
+        pow-zero R h,
+      )
       (ring L (f 0 ∷ h ∷ a ∷ value R (h ⊗ a) N (tail R f) ∷ []) (search reading depth 25) tt)
     where
       out : _≡_ {A = Seq R} (λ j. pow R h (suc j) ⊗ f (suc j)) (scaleS R h (λ j. pow R h j ⊗ f (suc j)))
@@ -187,7 +204,8 @@ module _ {R S : Ring} {to : R .Car → S .Car} (φ : Hom R S to) where
   map-below h i l = ap to (h i l) ∙ φ .to-zero
 
   -- evaluation along a homomorphism is one
-  pub eval-mul : (LS : RingLaws S) (s : S .Car) (N M : ℕ) (f g : Seq R) → Below R N f → Below R M g → eval R S to s (N + M) (mulS R f g) ≡ S .times (eval R S to s N f) (eval R S to s M g)
+  pub eval-mul : (LS : RingLaws S) (s : S .Car) (N M : ℕ) (f g : Seq R) → Below R N f → Below R M g
+      → eval R S to s (N + M) (mulS R f g) ≡ S .times (eval R S to s N f) (eval R S to s M g)
   eval-mul LS s N M f g hf hg = ap (value S s (N + M)) (map-mul f g) ∙ value-mul LS s N M (map R S to f) (map R S to g) (map-below hf) (map-below hg)
 
 -- a coefficient as a constant

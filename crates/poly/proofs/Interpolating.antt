@@ -88,7 +88,8 @@ module _ {p : ℕ} {points word work : List ℕ} {s : ℕ} (P : Places p points 
   pub interpolated-only : s ≤ length points → {g : Seq R} → Through R s (symbolsOf p points) (symbolsOf p word) g → t .h ≡ g
   interpolated-only l {g} through =
       let distinct : Distinct R s (symbolsOf p points) = λ i j k q. places-distinct P i j (omega arith) (omega arith) in
-      interpolant-unique (Φ .ring) s (symbolsOf p points) (symbolsOf p word) (t .h) g (distinct-apart Φ s (symbolsOf p points) distinct) (t .through) through
+      interpolant-unique (Φ .ring) s (symbolsOf p points) (symbolsOf p word) (t .h) g (distinct-apart Φ s (symbolsOf p points) distinct)
+      (t .through) through
 
   length-low : length (take 32 work) ≡ 32
   length-low = let long = t .long in simp length-take (omega arith)
@@ -104,12 +105,14 @@ module _ {p : ℕ} {points word work : List ℕ} {s : ℕ} (P : Places p points 
     pub interpolated-h : symbolsOf p (take 32 work) ≡ t .h
     interpolated-h =
         let n = length-low in let f = few in
-        symbols-are p (take 32 work) (t .h) (λ i g. t .through .short i (omega arith)) (λ i g. getD-take 32 work i 0 (omega arith) ∙ t .low i (omega arith))
+        symbols-are p (take 32 work) (t .h) (λ i g. t .through .short i (omega arith))
+        (λ i g. getD-take 32 work i 0 (omega arith) ∙ t .low i (omega arith))
 
     pub interpolated-e : symbolsOf p (drop 32 work) ≡ e
     interpolated-e =
         let n = length-high in let f = few in
-        symbols-are p (drop 32 work) e (λ i g. monic-locator (Φ .ring) s (symbolsOf p points) .rest i (omega arith)) (λ i g. getD-drop 32 work i 0 ∙ t .high i (omega arith))
+        symbols-are p (drop 32 work) e (λ i g. monic-locator (Φ .ring) s (symbolsOf p points) .rest i (omega arith))
+        (λ i g. getD-drop 32 work i 0 ∙ t .high i (omega arith))
 
   module _ (l : s < length points) where
     -- the next place
@@ -141,10 +144,20 @@ module _ {p : ℕ} {points word work : List ℕ} {s : ℕ} (P : Places p points 
         }
 
     value-h : valueAt p (take 32 work) a ≡ value R (symbol p a) s (t .h)
-    value-h = rw (length-low, interpolated-h (omega arith), value-more (Φ .ring) (symbol p a) s 32 (t .h) (t .through .short) (let f = few (omega arith) in omega arith))
+    value-h =
+        rw (
+          length-low,
+          interpolated-h (omega arith),
+          value-more (Φ .ring) (symbol p a) s 32 (t .h) (t .through .short) (let f = few (omega arith) in omega arith),
+        )
 
     value-e : valueAt p (drop 32 work) a ≡ value R (symbol p a) (suc s) e
-    value-e = rw (length-high, interpolated-e (omega arith), value-more (Φ .ring) (symbol p a) (suc s) 32 e (monic-locator (Φ .ring) s (symbolsOf p points) .rest) (few (omega arith)))
+    value-e =
+        rw (
+          length-high,
+          interpolated-e (omega arith),
+          value-more (Φ .ring) (symbol p a) (suc s) 32 e (monic-locator (Φ .ring) s (symbolsOf p points) .rest) (few (omega arith)),
+        )
 
     abbrev C : Element p
     C = symbol p (correctionOf p a b work)
@@ -154,7 +167,8 @@ module _ {p : ℕ} {points word work : List ℕ} {s : ℕ} (P : Places p points 
         let E = value R (symbol p a) (suc s) e in
         let D = sumOf p (value R (symbol p a) s (t .h)) (negativeOf p (symbol p b)) in
         let nonzero = locator-nonzero Φ s (symbolsOf p points) (λ i j k g. places-distinct P i j (omega arith) (omega arith)) in
-        let is : C ≡ productOf p D (inverseOf p E) = rw (symbol-timesBytes, symbol-minusBytes, symbol-invByte, value-h, value-e, symbol-byte, symbol-byte) in
+        let is : C ≡ productOf p D (inverseOf p E) =
+        rw (symbol-timesBytes, symbol-minusBytes, symbol-invByte, value-h, value-e, symbol-byte, symbol-byte) in
         rw is (divided Φ D E nonzero)
 
     -- the factor x - a
@@ -178,11 +192,22 @@ module _ {p : ℕ} {points word work : List ℕ} {s : ℕ} (P : Places p points 
         let room : 0 + 32 ≤ length work = let long = t .long in omega arith in
         let is : symbol p (getD mended (0 + i) 0) ≡ h' i =
         subtracted-symbol p (correctionOf p a b work) 0 32 work 32 i room g
-        ∙ rw (zero-add i, t .low i g, t .high i g, symbol-byte p (t .h i), symbol-byte p (e i), addS-at R (t .h) (negS R (scaleS R C e)) i, negS-at R (scaleS R C e) i, scaleS-at R C e i) in
-        ap (λ (n : ℕ). getD mended n 0) (sym (zero-add i)) ∙ byte-is p (h' i) (subtracted-below p (correctionOf p a b work) 0 32 work 32 i room g (P .size)) is
+        ∙ rw (
+          zero-add i,
+          t .low i g,
+          t .high i g,
+          symbol-byte p (t .h i),
+          symbol-byte p (e i),
+          addS-at R (t .h) (negS R (scaleS R C e)) i,
+          negS-at R (scaleS R C e) i,
+          scaleS-at R C e i,
+        ) in
+        ap (λ (n : ℕ). getD mended n 0) (sym (zero-add i))
+        ∙ byte-is p (h' i) (subtracted-below p (correctionOf p a b work) 0 32 work 32 i room g (P .size)) is
 
     mended-high : (i : ℕ) → i < 32 → from p mended 32 i ≡ e i
-    mended-high i g = rw (subtracted-outside p (correctionOf p a b work) 0 32 work 32 (32 + i) (inr (omega arith)), t .high i g) (symbol-byte p (e i))
+    mended-high i g =
+        rw (subtracted-outside p (correctionOf p a b work) 0 32 work 32 (32 + i) (inr (omega arith)), t .high i g) (symbol-byte p (e i))
 
     pub next-factors : Factors p (negByte p a ∷ 1 ∷ []) 32 32 mended
     next-factors =
@@ -193,7 +218,8 @@ module _ {p : ℕ} {points word work : List ℕ} {s : ℕ} (P : Places p points 
           region =
               record {
                 within = let long = t .long in let same = length-subtracted p (correctionOf p a b work) 0 32 work 32 in omega arith;
-                below = λ i g. rw (subtracted-outside p (correctionOf p a b work) 0 32 work 32 (32 + i) (inr (omega arith))) (interpolated-below (32 + i) (let long = t .long in omega arith));
+                below = λ i g. rw (subtracted-outside p (correctionOf p a b work) 0 32 work 32 (32 + i) (inr (omega arith)))
+                    (interpolated-below (32 + i) (let long = t .long in omega arith));
               };
         }
       where
@@ -204,7 +230,11 @@ module _ {p : ℕ} {points word work : List ℕ} {s : ℕ} (P : Places p points 
 
     locator-next : (i : ℕ) → i < 32 → productFrom p (negByte p a ∷ 1 ∷ []) mended 32 i ≡ locator R (suc s) (symbolsOf p points) i
     locator-next i g =
-        rw (factor-is, product-low R (lin R (symbol p a)) (from p mended 32) e i (λ j k. mended-high j (omega arith)), prod-suc (Series R) s (λ r. lin R (symbolsOf p points r)))
+        rw (
+          factor-is,
+          product-low R (lin R (symbol p a)) (from p mended 32) e i (λ j k. mended-high j (omega arith)),
+          prod-suc (Series R) s (λ r. lin R (symbolsOf p points r)),
+        )
         (ap (λ (f : Seq R). f i) (mul-comm (series (Φ .ring)) (lin R (symbol p a)) e))
 
     pub interpolated-next : {after : List ℕ} → Product p (negByte p a ∷ 1 ∷ []) 32 32 mended after → Interpolated p points word (s + 1) after

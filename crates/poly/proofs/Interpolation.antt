@@ -31,14 +31,22 @@ module _ {R : Ring} (L : RingLaws R) where
   value-locator c zero a = rw (prod-zero (Series R) (λ s. lin R (a s)), prod-zero R (λ s. c ⊕ ⊖ (a s))) (value-one L c)
   value-locator c (suc n) a =
       sym (value-more L c (suc (suc n)) (suc n + 2) (locator R (suc n) a) (monic-locator L (suc n) a .rest) (omega arith))
-      ∙ rw (prod-suc (Series R) n (λ s. lin R (a s)), value-mul L c (suc n) 2 (locator R n a) (lin R (a n)) (monic-locator L n a .rest) (below-lin L (a n)), value-locator c n a, value-lin c (a n))
+      ∙ rw (
+        prod-suc (Series R) n (λ s. lin R (a s)),
+        value-mul L c (suc n) 2 (locator R n a) (lin R (a n)) (monic-locator L n a .rest) (below-lin L
+            (a n)),
+        value-locator c n a,
+        value-lin c (a n),
+      )
       (sym (prod-suc R n (λ s. c ⊕ ⊖ (a s))))
 
   pub interpolant-unique : (n : ℕ) (a v : ℕ → Car) (g h : Seq R) → Apart R n a → Through R n a v g → Through R n a v h → g ≡ h
   interpolant-unique n a v g h apart tg th =
       difference-zero (series L) g h
-      (roots-zero L n a (addS R g (negS R h)) apart (below-add L {N = n} {f = g} {g = negS R h} (tg .short) (below-neg L {N = n} {f = h} (th .short)))
-      (λ s l. value-add L (a s) n g (negS R h) ∙ ap₂ _⊕_ (tg .hits s l) (value-neg L (a s) n h ∙ ap (λ (x : Car). ⊖ x) (th .hits s l)) ∙ add-neg L (v s)))
+      (roots-zero L n a (addS R g (negS R h)) apart
+      (below-add L {N = n} {f = g} {g = negS R h} (tg .short) (below-neg L {N = n} {f = h} (th .short)))
+      (λ s l. value-add L (a s) n g (negS R h) ∙ ap₂ _⊕_ (tg .hits s l) (value-neg L (a s) n h ∙ ap (λ (x : Car). ⊖ x) (th .hits s l))
+      ∙ add-neg L (v s)))
 
 module _ {F : Field} (Φ : FieldLaws F) where
   abbrev R : Ring
@@ -56,7 +64,8 @@ module _ {F : Field} (Φ : FieldLaws F) where
   locator-root : (n s : ℕ) (a : ℕ → Car) → s < n → value R (a s) (suc n) (locator R n a) ≡ 𝟘
   locator-root zero s a l = absurd (omega arith)
   locator-root (suc n) s a l =
-      value-locator L (a s) (suc n) a ∙ prod-suc R n (λ r. a s ⊕ ⊖ (a r)) ∙ go (ℕ-discrete s n) (λ k. sym (value-locator L (a s) n a) ∙ locator-root n s a k)
+      value-locator L (a s) (suc n) a ∙ prod-suc R n (λ r. a s ⊕ ⊖ (a r))
+      ∙ go (ℕ-discrete s n) (λ k. sym (value-locator L (a s) n a) ∙ locator-root n s a k)
     where
       P : Car
       P = prod R n (λ r. a s ⊕ ⊖ (a r))
@@ -67,7 +76,8 @@ module _ {F : Field} (Φ : FieldLaws F) where
 
   pub locator-nonzero : (n : ℕ) (a : ℕ → Car) → Distinct R (suc n) a → value R (a n) (suc n) (locator R n a) ≢ 𝟘
   locator-nonzero n a inj z =
-      let null = roots-zero L (suc n) a (locator R n a) (distinct-apart Φ (suc n) a inj) (monic-locator L n a .rest) (λ s l. root s l (ℕ-discrete s n)) in
+      let null =
+      roots-zero L (suc n) a (locator R n a) (distinct-apart Φ (suc n) a inj) (monic-locator L n a .rest) (λ s l. root s l (ℕ-discrete s n)) in
       Φ .one≢zero (sym (monic-locator L n a .top) ∙ ap (λ (f : Seq R). f n) null ∙ zeroS-at R n)
     where
       root : (s : ℕ) → s < suc n → Dec (s ≡ n) → value R (a s) (suc n) (locator R n a) ≡ 𝟘
@@ -85,14 +95,16 @@ module _ {F : Field} (Φ : FieldLaws F) where
     pub through-next : Through R n a v h → c ⊗ value R (a n) (suc n) e ≡ value R (a n) n h ⊕ ⊖ (v n) → Through R (suc n) a v next
     through-next t mends =
         record {
-          short = below-add L {N = suc n} {f = h} {g = negS R (scaleS R c e)} (λ i l. t .short i (omega arith)) (below-neg L {N = suc n} {f = scaleS R c e} (below-scale L c (monic-locator L n a .rest)));
+          short = below-add L {N = suc n} {f = h} {g = negS R (scaleS R c e)} (λ i l. t .short i (omega arith))
+              (below-neg L {N = suc n} {f = scaleS R c e} (below-scale L c (monic-locator L n a .rest)));
           hits = λ s l. hits s l (ℕ-discrete s n);
         }
       where
         value-next : (x : Car) → value R x (suc n) next ≡ value R x n h ⊕ ⊖ (c ⊗ value R x (suc n) e)
         value-next x =
             value-add L x (suc n) h (negS R (scaleS R c e))
-            ∙ ap₂ _⊕_ (value-more L x n (suc n) h (t .short) (omega arith)) (value-neg L x (suc n) (scaleS R c e) ∙ ap (λ (y : Car). ⊖ y) (value-scale L x (suc n) c e))
+            ∙ ap₂ _⊕_ (value-more L x n (suc n) h (t .short) (omega arith))
+            (value-neg L x (suc n) (scaleS R c e) ∙ ap (λ (y : Car). ⊖ y) (value-scale L x (suc n) c e))
 
         last : (y z : Car) → y ⊕ ⊖ (y ⊕ ⊖ z) ≡ z
         last y z = ring L (y ∷ z ∷ []) (search reading depth 25) tt

@@ -84,4 +84,9 @@ module _ {R : Ring} (L : RingLaws R) where
       rw (mono-suc R (⊖ c) d, mono-suc R c d, mono-neg c d)
       (cons-ext L (consS R 𝟘 (negS R (mono R c d))) (negS R (consS R 𝟘 (mono R c d)))
       (rw (consS-zero R 𝟘 (negS R (mono R c d)), negS-at R (consS R 𝟘 (mono R c d)) 0, consS-zero R 𝟘 (mono R c d)) (sym (neg-zero L)))
-      (λ n. rw (consS-suc R 𝟘 (negS R (mono R c d)) n, negS-at R (mono R c d) n, negS-at R (consS R 𝟘 (mono R c d)) (suc n), consS-suc R 𝟘 (mono R c d) n)))
+      (λ n. rw (
+        consS-suc R 𝟘 (negS R (mono R c d)) n,
+        negS-at R (mono R c d) n,
+        negS-at R (consS R 𝟘 (mono R c d)) (suc n),
+        consS-suc R 𝟘 (mono R c d) n,
+      )))

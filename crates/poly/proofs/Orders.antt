@@ -93,16 +93,19 @@ module _ {R : Ring} (L : RingLaws R) where
   value-order v (suc N) P f o i l =
       let U : Seq R = value (Series R) f N (tail (Series R) P) in
       ap (λ (k : Seq R). k i) (value-suc (Series R) f N P)
-      ∙ ord-add L {n = v} {f = P 0} {g = f ⊠ U} (o 0) (λ t q. ord-mul L 0 v f U (λ s h. absurd (omega arith)) (value-order v N (tail (Series R) P) f (λ j. o (suc j))) t (omega arith)) i l
+      ∙ ord-add L {n = v} {f = P 0} {g = f ⊠ U} (o 0)
+      (λ t q. ord-mul L 0 v f U (λ s h. absurd (omega arith)) (value-order v N (tail (Series R) P) f (λ j. o (suc j))) t (omega arith)) i l
 
   pub value-lowest : (v N : ℕ) (P : Seq (Series R)) (f : Seq R) → ((j : ℕ) → Ord R v (P j)) → value (Series R) f N P v ≡ value R (f 0) N (λ j. P j v)
   value-lowest v zero P f o = ap (λ (k : Seq R). k v) (value-zero (Series R) f P) ∙ zeroS-at R v ∙ sym (value-zero R (f 0) (λ j. P j v))
   value-lowest v (suc N) P f o =
       let U : Seq R = value (Series R) f N (tail (Series R) P) in
-      let low : mulS R f U (0 + v) ≡ f 0 ⊗ U v = ord-mul-lowest L 0 v f U (λ s h. absurd (omega arith)) (value-order v N (tail (Series R) P) f (λ j. o (suc j))) in
+      let low : mulS R f U (0 + v) ≡ f 0 ⊗ U v =
+      ord-mul-lowest L 0 v f U (λ s h. absurd (omega arith)) (value-order v N (tail (Series R) P) f (λ j. o (suc j))) in
       ap (λ (k : Seq R). k v) (value-suc (Series R) f N P)
       ∙ addS-at R (P 0) (f ⊠ U) v
-      ∙ ap (λ (c : Car). P 0 v ⊕ c) (ap (mulS R f U) (sym (zero-add v)) ∙ low ∙ ap (λ (c : Car). f 0 ⊗ c) (value-lowest v N (tail (Series R) P) f (λ j. o (suc j))))
+      ∙ ap (λ (c : Car). P 0 v ⊕ c)
+      (ap (mulS R f U) (sym (zero-add v)) ∙ low ∙ ap (λ (c : Car). f 0 ⊗ c) (value-lowest v N (tail (Series R) P) f (λ j. o (suc j))))
       ∙ sym (value-suc R (f 0) N (λ j. P j v))
 
 module _ {F : Field} (Φ : FieldLaws F) where
@@ -114,9 +117,11 @@ module _ {F : Field} (Φ : FieldLaws F) where
   lowest zero f h = inl (below-zero (Φ .ring) h)
   lowest (suc N) f h = go (F .same? (f zero) (R .𝟘)) (lowest N (tail R f) (below-tail (Φ .ring) h))
     where
-      go : Dec (f zero ≡ R .𝟘) → (tail R f ≡ zeroS R) ⊎ ((n : ℕ) × Ord R n (tail R f) × (f (suc n) ≢ R .𝟘)) → (f ≡ zeroS R) ⊎ ((n : ℕ) × Ord R n f × (f n ≢ R .𝟘))
+      go : Dec (f zero ≡ R .𝟘) → (tail R f ≡ zeroS R) ⊎ ((n : ℕ) × Ord R n (tail R f) × (f (suc n) ≢ R .𝟘))
+          → (f ≡ zeroS R) ⊎ ((n : ℕ) × Ord R n f × (f n ≢ R .𝟘))
       go (no e) r = inr (zero, (λ i l. absurd (omega arith)), e)
-      go (yes e) (inl z) = inl (cons-ext (Φ .ring) f (zeroS R) (e ∙ sym (zeroS-at R zero)) (λ n. ap (λ (g : Seq R). g n) z ∙ zeroS-at R n ∙ sym (zeroS-at R (suc n))))
+      go (yes e) (inl z) =
+          inl (cons-ext (Φ .ring) f (zeroS R) (e ∙ sym (zeroS-at R zero)) (λ n. ap (λ (g : Seq R). g n) z ∙ zeroS-at R n ∙ sym (zeroS-at R (suc n))))
       go (yes e) (inr t) = inr (suc (t .0), low, t .2)
         where
           low : Ord R (suc (t .0)) f

@@ -38,8 +38,11 @@ module _ {p : ℕ} (l : Listed p) (f : List ℕ) (xs : List ℕ) (at e : ℕ) wh
   product-convolution {i} is =
       let rest = suc e - i in
       let h : suc e ≡ i + rest = omega arith in
-      let past : sum (symbols p .ring) rest (λ j. term (i + j)) ≡ symbol p 0 = sum-null L rest (λ j. term (i + j)) (λ j k. term-past (i + j) (omega arith)) in
-      let same : convolution p (at + e) i f xs ≡ sum (symbols p .ring) i term = sum-cong L i (λ j. productOf p (symbolsOf p f j) (symbolsOf p xs (at + e - j))) term (λ j k. ap (λ q. productOf p (symbolsOf p f j) (symbolsOf p xs q)) (omega arith)) in
+      let past : sum (symbols p .ring) rest (λ j. term (i + j)) ≡ symbol p 0 =
+      sum-null L rest (λ j. term (i + j)) (λ j k. term-past (i + j) (omega arith)) in
+      let same : convolution p (at + e) i f xs ≡ sum (symbols p .ring) i term =
+      sum-cong L i (λ j. productOf p (symbolsOf p f j) (symbolsOf p xs (at + e - j))) term
+      (λ j k. ap (λ q. productOf p (symbolsOf p f j) (symbolsOf p xs q)) (omega arith)) in
       same ∙ rw (mulS-sum L (symbolsOf p f) (from p xs at) e, h, sum-split L i rest term, past, add-zero L (sum (symbols p .ring) i term))
 
 -- the coefficients from x^i on are in place, and the rest is as it was
@@ -66,7 +69,8 @@ module _ {p : ℕ} {f : List ℕ} {at len i : ℕ} {before after : List ℕ} (m 
       }
     where
       same : productFrom p f after at (i - 1) ≡ productFrom p f before at (i - 1)
-      same = product-low (symbols p .ring) (symbolsOf p f) (from p after at) (from p before at) (i - 1) (λ j l. ap (symbol p) (multiplied-low j (omega arith)))
+      same = product-low (symbols p .ring) (symbolsOf p f) (from p after at) (from p before at) (i - 1)
+          (λ j l. ap (symbol p) (multiplied-low j (omega arith)))
 
       go : (q : ℕ) → i - 1 ≤ q → q < len → Dec (q ≡ i - 1) → getD (set after (at + (i - 1)) v) (at + q) 0 ≡ productFrom p f before at q .byte
       go q h l (yes d) = rw (d, getD-set-same after (at + (i - 1)) v 0 (let g = m .kept .long in omega arith), e, same)

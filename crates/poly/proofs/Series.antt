@@ -82,7 +82,16 @@ module _ {R : Ring} (L : RingLaws R) where
   mul-assoc-at : (f g h : Seq R) (n : ℕ) → mulS R (mulS R f g) h n ≡ mulS R f (mulS R g h) n
   mul-assoc-at f g h zero = simp mulS-zero (mul-assoc L _ _ _)
   mul-assoc-at f g h (suc n) =
-      rw (mulS-suc R (mulS R f g) h n, tail-mulS R f g, add-mul-at (scaleS R (f zero) (tail R g)) (mulS R (tail R f) g) h n, scale-mul-at (f zero) (tail R g) h n, mul-assoc-at (tail R f) g h n, mulS-suc R f (mulS R g h) n, mulS-suc R g h n, mulS-zero R f g)
+      rw (
+        mulS-suc R (mulS R f g) h n,
+        tail-mulS R f g,
+        add-mul-at (scaleS R (f zero) (tail R g)) (mulS R (tail R f) g) h n,
+        scale-mul-at (f zero) (tail R g) h n,
+        mul-assoc-at (tail R f) g h n,
+        mulS-suc R f (mulS R g h) n,
+        mulS-suc R g h n,
+        mulS-zero R f g,
+      )
       (ring L (f zero ∷ g zero ∷ h (suc n) ∷ mulS R (tail R g) h n ∷ mulS R (tail R f) (mulS R g h) n ∷ []) (search reading depth 25) tt)
 
   zero-mul-at : (g : Seq R) (n : ℕ) → mulS R (zeroS R) g n ≡ 𝟘
@@ -159,7 +168,8 @@ module _ {R : Ring} (L : RingLaws R) where
 
   -- a coefficient to which one term only contributes
   pub mulS-single : (n m : ℕ) (f g : Seq R) → ((u : ℕ) → u < suc (n + m) → u ≢ n → f u ⊗ g (n + m - u) ≡ 𝟘) → mulS R f g (n + m) ≡ f n ⊗ g m
-  mulS-single n m f g h = mulS-sum f g (n + m) ∙ sum-single L (suc (n + m)) n (λ u. f u ⊗ g (n + m - u)) (omega arith) h ∙ rw (add-sub-cancel-left n m)
+  mulS-single n m f g h =
+      mulS-sum f g (n + m) ∙ sum-single L (suc (n + m)) n (λ u. f u ⊗ g (n + m - u)) (omega arith) h ∙ rw (add-sub-cancel-left n m)
 
   pub sum-at : (n : ℕ) (f : ℕ → Seq R) (i : ℕ) → sum (Series R) n f i ≡ sum R n (λ s. f s i)
   sum-at zero f i = rw (sum-zero (Series R) f, sum-zero R (λ s. f s i)) (zeroS-at R i)

@@ -10,9 +10,13 @@ use Rattle.field.proofs.RingTactic.{ring, reading}
 use Rattle.field.proofs.Sums.{pow-zero, pow-suc}
 use Rattle.poly.specs.Polynomials.{Seq, tail, zeroS, addS, mulS, Series, constS, lin, Below, value, scaleS, xS, consS}
 use Rattle.poly.proofs.Series.{series, zeroS-at, addS-at, mulS-zero, mulS-suc, scaleS-at}
-use Rattle.poly.proofs.Constants.{xPlus, constS-zero, constS-suc, xPlus-zero, xPlus-tail, xPlus-none, xPlus-neg, xPlus-add, cons-tail, mul-const, const-mul}
-use Rattle.poly.proofs.Bounds.{below-zero, below-tail, below-mono, below-add, below-null, below-same, below-const, below-xPlus, below-mul-tight}
-use Rattle.poly.proofs.Evaluation.{Hom, map, map-add, map-mul, map-null, map-const, map-xPlus, map-below, eval, eval-mul, constant, value-zero, value-suc, value-add, value-null, value-more, value-mul, value-const, value-xPlus, value-split, value-scale}
+use Rattle.poly.proofs.Constants.{xPlus, constS-zero, constS-suc, xPlus-zero, xPlus-tail, xPlus-none, xPlus-neg, xPlus-add, cons-tail}
+use Rattle.poly.proofs.Constants.{mul-const, const-mul}
+use Rattle.poly.proofs.Bounds.{below-zero, below-tail, below-mono, below-add, below-null, below-same, below-const, below-xPlus}
+use Rattle.poly.proofs.Bounds.{below-mul-tight}
+use Rattle.poly.proofs.Evaluation.{Hom, map, map-add, map-mul, map-null, map-const, map-xPlus, map-below, eval, eval-mul, constant}
+use Rattle.poly.proofs.Evaluation.{value-zero, value-suc, value-add, value-null, value-more, value-mul, value-const, value-xPlus, value-split}
+use Rattle.poly.proofs.Evaluation.{value-scale}
 use Rattle.poly.proofs.Parts.{drop}
 
 module _ (R : Ring) where
@@ -41,7 +45,9 @@ module _ {R : Ring} (L : RingLaws R) where
 
   pub shift-add : (a : Car) (N : ℕ) (f g : Seq R) → shift R a N (addS R f g) ≡ addS R (shift R a N f) (shift R a N g)
   unfolding shift
-  shift-add a N f g = ap (value (Series R) (xPlus R a) N) (map-add (constant L) f g) ∙ value-add (series L) (xPlus R a) N (map R (Series R) (constS R) f) (map R (Series R) (constS R) g)
+  shift-add a N f g =
+      ap (value (Series R) (xPlus R a) N) (map-add (constant L) f g)
+      ∙ value-add (series L) (xPlus R a) N (map R (Series R) (constS R) f) (map R (Series R) (constS R) g)
 
   pub shift-scale : (a : Car) (N : ℕ) (c : Car) (f : Seq R) → shift R a N (scaleS R c f) ≡ scaleS R c (shift R a N f)
   unfolding shift scaleS
@@ -50,7 +56,8 @@ module _ {R : Ring} (L : RingLaws R) where
       ∙ value-scale (series L) (xPlus R a) N (constS R c) (λ n. constS R (f n))
       ∙ mul-const L c (shift R a N f)
 
-  pub shift-mul : (a : Car) (N M : ℕ) (f g : Seq R) → Below R N f → Below R M g → shift R a (N + M) (mulS R f g) ≡ mulS R (shift R a N f) (shift R a M g)
+  pub shift-mul : (a : Car) (N M : ℕ) (f g : Seq R) → Below R N f → Below R M g
+      → shift R a (N + M) (mulS R f g) ≡ mulS R (shift R a N f) (shift R a M g)
   unfolding shift
   shift-mul a N M f g hf hg = eval-mul (constant L) (series L) (xPlus R a) N M f g hf hg
 
@@ -75,9 +82,18 @@ module _ {R : Ring} (L : RingLaws R) where
   pub shift-at-zero : (a : Car) (N : ℕ) (f : Seq R) → shift R a (suc N) f zero ≡ f zero ⊕ a ⊗ shift R a N (tail R f) zero
   shift-at-zero a N f = rw (shift-suc R a N f, addS-at R, constS-zero R, mulS-zero R, xPlus-zero R)
 
-  pub shift-at-suc : (a : Car) (N : ℕ) (f : Seq R) (j : ℕ) → shift R a (suc N) f (suc j) ≡ shift R a N (tail R f) j ⊕ a ⊗ shift R a N (tail R f) (suc j)
+  pub shift-at-suc : (a : Car) (N : ℕ) (f : Seq R) (j : ℕ)
+      → shift R a (suc N) f (suc j) ≡ shift R a N (tail R f) j ⊕ a ⊗ shift R a N (tail R f) (suc j)
   shift-at-suc a N f j =
-      rw (shift-suc R a N f, addS-at R (constS R (f zero)) (mulS R (xPlus R a) (shift R a N (tail R f))) (suc j), constS-suc R (f zero) j, mulS-suc R (xPlus R a) (shift R a N (tail R f)) j, xPlus-zero R a, xPlus-tail R a, one-mul (series L) (shift R a N (tail R f)))
+      rw (
+        shift-suc R a N f,
+        addS-at R (constS R (f zero)) (mulS R (xPlus R a) (shift R a N (tail R f))) (suc j),
+        constS-suc R (f zero) j,
+        mulS-suc R (xPlus R a) (shift R a N (tail R f)) j,
+        xPlus-zero R a,
+        xPlus-tail R a,
+        one-mul (series L) (shift R a N (tail R f)),
+      )
       (ring L (a ∷ shift R a N (tail R f) j ∷ shift R a N (tail R f) (suc j) ∷ []) (search reading depth 25) tt)
 
   -- the constant term of f (x + a) is f (a)
@@ -92,7 +108,9 @@ module _ {R : Ring} (L : RingLaws R) where
       rw (shift-suc R a N f, value-add L s (suc N) (constS R (f zero)) (mulS R (xPlus R a) (shift R a N (tail R f))))
       (ap₂ _⊕_
       (value-more L s 1 (suc N) (constS R (f zero)) (below-const L (f zero)) (omega arith) ∙ value-const L s (f zero))
-      (sym (value-more L s (suc N) (2 + N) (mulS R (xPlus R a) (shift R a N (tail R f))) (λ j k. below-mul-tight L 1 N (xPlus R a) (shift R a N (tail R f)) (below-xPlus L a) (below-shift a N (tail R f)) j (omega arith)) (omega arith))
+      (sym (value-more L s (suc N) (2 + N) (mulS R (xPlus R a) (shift R a N (tail R f)))
+      (λ j k. below-mul-tight L 1 N (xPlus R a) (shift R a N (tail R f)) (below-xPlus L a) (below-shift a N (tail R f)) j (omega arith))
+      (omega arith))
       ∙ value-mul L s 2 N (xPlus R a) (shift R a N (tail R f)) (below-xPlus L a) (below-shift a N (tail R f))
       ∙ ap₂ _⊗_ (value-xPlus L s a) (value-shift s a N (tail R f)))
       ∙ sym (value-suc R (s ⊕ a) N f))
@@ -111,7 +129,8 @@ module _ {R : Ring} (L : RingLaws R) where
   infixl 65 _⊕_
   infixl 70 _⊗_
   -- f at g + h x is f at g + x, each coefficient times a power of h
-  pub value-line : (g h : Car) (N : ℕ) (f : Seq R) (j : ℕ) → value (Series R) (consS R g (constS R h)) N (λ i. constS R (f i)) j ≡ pow R h j ⊗ shift R g N f j
+  pub value-line : (g h : Car) (N : ℕ) (f : Seq R) (j : ℕ)
+      → value (Series R) (consS R g (constS R h)) N (λ i. constS R (f i)) j ≡ pow R h j ⊗ shift R g N f j
   unfolding consS
   value-line g h zero f j =
       ap (λ (k : Seq R). k j) (value-zero (Series R) (consS R g (constS R h)) (λ i. constS R (f i)))
@@ -136,7 +155,16 @@ module _ {R : Ring} (L : RingLaws R) where
       at zero ih =
           rw (constS-zero R (f 0), mulS-zero R (consS R g (constS R h)) E, ih 0, shift-at-zero L g N f, pow-zero R h) (first (f 0) (S 0))
       at (suc j) ih =
-          rw (constS-suc R (f 0) j, mulS-suc R (consS R g (constS R h)) E j, mul-const L h E, scaleS-at R h E j, ih j, ih (suc j), shift-at-suc L g N f j, pow-suc R h j) (later (pow R h j) (S j) (S (suc j)))
+          rw (
+            constS-suc R (f 0) j,
+            mulS-suc R (consS R g (constS R h)) E j,
+            mul-const L h E,
+            scaleS-at R h E j,
+            ih j,
+            ih (suc j),
+            shift-at-suc L g N f j,
+            pow-suc R h j,
+          ) (later (pow R h j) (S j) (S (suc j)))
 
 -- shifting commutes with carrying the coefficients over
 module _ {R S : Ring} {to : R .Car → S .Car} (φ : Hom R S to) where
@@ -177,7 +205,8 @@ module _ {R : Ring} (L : RingLaws R) where
 
   -- f (x + c) = the sum of f_j (x + c)^j, j < m, and (x + c)^m times the rest
   pub shift-split : (c : Car) (m K : ℕ) (g : Seq R)
-      → shift R c (m + K) g ≡ addS R (sum (Series R) m (λ j. mulS R (constS R (g j)) (pow (Series R) (xPlus R c) j))) (mulS R (pow (Series R) (xPlus R c) m) (shift R c K (drop R m g)))
+      → shift R c (m + K) g ≡ addS R (sum (Series R) m (λ j. mulS R (constS R (g j)) (pow (Series R) (xPlus R c) j)))
+      (mulS R (pow (Series R) (xPlus R c) m) (shift R c K (drop R m g)))
   unfolding shift
   shift-split c m K g = value-split (series L) (xPlus R c) m K (map R (Series R) (constS R) g)
 

@@ -45,7 +45,8 @@ first-stops (suc n) [] number e other = e
 first-stops (suc n) (x ∷ rest) number (inl h) other = inl h
 first-stops (suc n) (x ∷ rest) number (inr (not, f)) other = inr (not, first-stops n rest number f other)
 
-pub first-goes : (n : ℕ) (table : List Refusal) (number : ℕ) → Numbered (take n table) → First (take n table) 0 → First (drop n table) number → First table number
+pub first-goes : (n : ℕ) (table : List Refusal) (number : ℕ) → Numbered (take n table) → First (take n table) 0 → First (drop n table) number
+    → First table number
 first-goes zero table number k f g = g
 first-goes (suc n) [] number k f g = g
 first-goes (suc n) (x ∷ rest) number k (inl (here, e)) g = let h = k .0 in absurd (omega arith)

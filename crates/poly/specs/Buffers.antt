@@ -4,7 +4,8 @@
 --   Coefficients p a xs     p is listed, and a and every byte of xs are below p
 --   Among xs count x        x is one of the first `count` bytes
 --   from p xs at            the x-polynomial whose coefficients stand from the byte `at` on
---   Factors p f at len xs   p is listed, and every byte of f and of the len bytes from `at` on is below p; len is within what a sum of products can hold
+--   Factors p f at len xs   p is listed, and every byte of f and of the len bytes from `at` on is below p; len is within what a sum of products
+--                           can hold
 --   productFrom p f xs at   f times that x-polynomial
 --   Kept at len xs ys       only the len bytes from `at` on may differ
 --   Untouched size xs ys    from the byte `size` on ys is as xs, and as long

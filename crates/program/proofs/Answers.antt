@@ -28,14 +28,17 @@ read-inside (unreadable none) = (omega arith, omega arith)
 first-part : (xs ys : List ℕ) → take (length xs) (xs ++ ys) ≡ xs
 first-part xs ys = take-append-le (length xs) xs ys (le-refl (length xs)) ∙ take-length xs
 
-pub unread-answer : {text before after : List ℕ} {r : ℕ} {back : Request} → HasRead text back → back .ok ≡ false → HasWritten (reply 14 0 0 0 0 []) before after r → Answered text before after r
+pub unread-answer : {text before after : List ℕ} {r : ℕ} {back : Request} → HasRead text back → back .ok ≡ false
+    → HasWritten (reply 14 0 0 0 0 []) before after r → Answered text before after r
 unread-answer (readable q p) e w = absurd (true≢false e)
 unread-answer (unreadable none) e w = unread none w
 
 -- the list that the code asks is that of the request read
 module _ {text before after : List ℕ} {r : ℕ} (left messages : List ℕ) (near : Near) where
   pub listed-answer : {back : Request} → HasRead text back → back .ok ≡ true
-      → HasListed (back .field) (take (back .n) (back .points)) (take (back .count) (back .word)) (back .k) (back .m) (back .l) (back .t) (replicate workingRoom 0) left (replicate messagesMost 0) messages near
-      → HasWritten (reply (near .number) (near .updates) (near .weight) (near .count) (back .k) messages) before after r → Answered text before after r
+      → HasListed (back .field) (take (back .n) (back .points)) (take (back .count) (back .word)) (back .k) (back .m) (back .l) (back .t)
+      (replicate workingRoom 0) left (replicate messagesMost 0) messages near
+      → HasWritten (reply (near .number) (near .updates) (near .weight) (near .count) (back .k) messages) before after r
+      → Answered text before after r
   listed-answer (readable q p) e h w = listed q p left messages near (rw (first-part (q .points) _, first-part (q .word) _) at h) w
   listed-answer (unreadable none) e h w = absurd (true≢false (sym e))

@@ -19,7 +19,8 @@ record Listed (q : Meaning) (before after : List ℕ) (r : ℕ) : Type 0 where
   left : List ℕ
   messages : List ℕ
   back : Near
-  lists : HasListed (q .field) (q .points) (q .word) (q .k) (q .m) (q .l) (q .t) (replicate workingRoom 0) left (replicate messagesMost 0) messages back
+  lists : HasListed (q .field) (q .points) (q .word) (q .k) (q .m) (q .l) (q .t) (replicate workingRoom 0) left
+      (replicate messagesMost 0) messages back
   writes : HasWritten (reply (back .number) (back .updates) (back .weight) (back .count) (q .k) messages) before after r
 
 listed-determined : {q : Meaning} {before x y : List ℕ} {r s : ℕ} → Listed q before x r → Listed q before y s → (x ≡ y) × (r ≡ s)
@@ -36,4 +37,5 @@ answer-determined (listed q p left messages back h w) (unread none w′) = absur
 answer-determined {before = before} {y = y} {s = s} (listed q p left messages back h w) (listed q′ p′ left′ messages′ back′ h′ w′) =
     listed-determined
     (record { left = left; messages = messages; back = back; lists = h; writes = w })
-    (subst (λ (m : Meaning). Listed m before y s) (one-meaning p′ p) (record { left = left′; messages = messages′; back = back′; lists = h′; writes = w′ }))
+    (subst (λ (m : Meaning). Listed m before y s) (one-meaning p′ p)
+    (record { left = left′; messages = messages′; back = back′; lists = h′; writes = w′ }))

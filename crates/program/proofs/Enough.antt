@@ -24,7 +24,8 @@ none-printable : {k : ℕ} {messages : List ℕ} {back : Near} → back .count �
 none-printable e = record { few = rw e (omega arith); there = rw e (omega arith) }
 
 module _ {p : ℕ} {points word : List ℕ} {k m l t : ℕ} {lent before messages : List ℕ} {back : Near} where
-  lists-printable : {weight : ℕ} → Taken p points word k m l t lent before → Lists p points word k m l t weight before messages back → Printable k messages back
+  lists-printable : {weight : ℕ} → Taken p points word k m l t lent before → Lists p points word k m l t weight before messages back
+      → Printable k messages back
   lists-printable a h =
       let few : back .count ≤ l = rw (h .count) (h .few) in
       let short : k ≤ 30 = omega arith in
@@ -33,7 +34,8 @@ module _ {p : ℕ} {points word : List ℕ} {k m l t : ℕ} {lent before message
         there = omega (arith, mul-le-mul {n₁ = back .count} {m₁ = k} {n₂ = l} {m₂ = k} (omega arith) (omega arith));
       }
 
-  answers-printable : {left : List ℕ} → Taken p points word k m l t lent before → Answers p points word k m l t lent left before messages back → Printable k messages back
+  answers-printable : {left : List ℕ} → Taken p points word k m l t lent before → Answers p points word k m l t lent left before messages back
+      → Printable k messages back
   answers-printable a h = go (decLt (h .smallest .weight) (m * t))
     where
       go : Dec (h .smallest .weight < m * t) → Printable k messages back
@@ -44,10 +46,13 @@ module _ {p : ℕ} {points word : List ℕ} {k m l t : ℕ} {lent before message
   listed-printable h = go (ℕ-discrete (h .entry) 0)
     where
       go : Dec (h .entry ≡ 0) → Printable k messages back
-      go (yes z) = answers-printable (list-taken p points word k m l t lent before (subst (First (listTable p points word k m l t lent before)) z (h .first))) (h .answers z)
+      go (yes z) =
+          answers-printable (list-taken p points word k m l t lent before
+          (subst (First (listTable p points word k m l t lent before)) z (h .first))) (h .answers z)
       go (no z) = none-printable (rw (h .refused z .0))
 
-written-whole : {o : Reply} {before after : List ℕ} {r : ℕ} → HasWritten o before after r → room o ≤ length before → o .count * o .k ≤ length (o .messages)
+written-whole : {o : Reply} {before after : List ℕ} {r : ℕ} → HasWritten o before after r → room o ≤ length before
+    → o .count * o .k ≤ length (o .messages)
     → (after ≡ answer o ++ drop (length (answer o)) before) × (r ≡ length (answer o))
 written-whole w h k = write-determined w (written h k)
 

@@ -13,5 +13,6 @@ use Rattle.text.specs.Answers.{reply, HasWritten}
 pub data Answered (text before after : List ℕ) (r : ℕ) : Type 0 where
   unread : ((q : Meaning) → Readable text q → ⊥) → HasWritten (reply 14 0 0 0 0 []) before after r → Answered text before after r
   listed : (q : Meaning) → Readable text q → (left messages : List ℕ) (back : Near)
-      → HasListed (q .field) (q .points) (q .word) (q .k) (q .m) (q .l) (q .t) (replicate workingRoom 0) left (replicate messagesMost 0) messages back
+      → HasListed (q .field) (q .points) (q .word) (q .k) (q .m) (q .l) (q .t)
+      (replicate workingRoom 0) left (replicate messagesMost 0) messages back
       → HasWritten (reply (back .number) (back .updates) (back .weight) (back .count) (q .k) messages) before after r → Answered text before after r

@@ -61,7 +61,8 @@ module _ {p : ℕ} {points word : List ℕ} {k m l : ℕ} where
 module _ {p : ℕ} {points word : List ℕ} {k m l : ℕ} {rows : List ℕ} where
   pub start-accepted : {number : ℕ} → First (startTable p points word k m l rows) number → number ≡ 0 → Accepted p points word k m l rows
   start-accepted first z =
-      let (size, (count, (spelt, (degree, (heights, (large, (repeated, (short, _)))))))) = first-passed (startTable p points word k m l rows) (search needs) first z in
+      let (size, (count, (spelt, (degree, (heights, (large, (repeated, (short, _)))))))) =
+      first-passed (startTable p points word k m l rows) (search needs) first z in
       let r : Requested p points word k m l = requested (size, (count, (spelt, (degree, (heights, (large, (repeated, tt))))))) in
       record { places = r .places; some = r .some; low = r .low; degree = r .degree; heights = r .heights; room = omega arith }
 

@@ -84,7 +84,9 @@ module _ (q : Request) where
         let holds = begun .0 .rows (begun .1) h thr in
         record {
           start = rowsOf (shapeFor q) after;
-          begins = begins-same Φ (λ i k. holds-row (shapeFor q) after k (rows i) (λ j e. holds i j e k) (λ j e x. b .fresh i k .height j e (omega arith)) (b .fresh i k .within)) b;
+          begins =
+              begins-same Φ (λ i k. holds-row (shapeFor q) after k (rows i) (λ j e. holds i j e k) (λ j e x. b .fresh i k .height j e (omega arith))
+              (b .fresh i k .within)) b;
           list = [];
           outcome = stops F 0 (rowsOf (shapeFor q) after) 1;
           run = none;
@@ -97,10 +99,12 @@ module _ (q : Request) where
         }
 
     -- the curve of demand 2 exists for every request that start accepts
-    pub curve-exists : (Q : Curve (ringFor q)) × Smallest (ringFor q) (q .k - 1) (Member q) Q × ((P : Curve (ringFor q)) → Smallest (ringFor q) (q .k - 1) (Member q) P → P ≡ Q)
+    pub curve-exists : (Q : Curve (ringFor q)) × Smallest (ringFor q) (q .k - 1) (Member q) Q
+        × ((P : Curve (ringFor q)) → Smallest (ringFor q) (q .k - 1) (Member q) P → P ≡ Q)
     curve-exists =
         let low = accepted .low in
-        passing-curve-exists (symbols-field (q .p) (accepted .places .size)) (places-distinct (accepted .places)) (omega arith) (accepted .degree) (accepted .heights .order)
+        passing-curve-exists (symbols-field (q .p) (accepted .places .size)) (places-distinct (accepted .places)) (omega arith) (accepted .degree)
+        (accepted .heights .order)
 
   module _ {sum : ℕ} {rows : List ℕ} {note : Note} {made : ℕ} (s : Stands q sum rows note made) where
     abbrev o : Outcome F
@@ -116,13 +120,16 @@ module _ (q : Request) where
     as-left = record { below = none-large (all-below (s .bytes)); sound = rw (s .rows-are) (promise .kept .sound) }
 
     -- the next turn is accepted and goes by the rule: a turn more in the run
-    stands-turned : {a : ℕ} {new : List ℕ} {back : Turned} → HasTurned note a rows new back → (back .number ≡ 0) × Stands q (sum + a) new (back .note) (made + back .updates)
+    stands-turned : {a : ℕ} {new : List ℕ} {back : Turned} → HasTurned note a rows new back
+        → (back .number ≡ 0) × Stands q (sum + a) new (back .note) (made + back .updates)
     stands-turned {a} {new} {back} t = go (rw (s .note-is) at t)
       where
         go : HasTurned (noteFor q (o .row)) a rows new back → (back .number ≡ 0) × Stands q (sum + a) new (back .note) (made + back .updates)
         go t =
             let room = s .bytes .room in
-            let entry = first-determined (turnTable (noteFor q (o .row)) rows) (t .entry) 0 (t .first) (inr (not-bad (s .good), inr (λ h. omega arith, inr (λ n. n as-left, refl)))) in
+            let entry =
+            first-determined (turnTable (noteFor q (o .row)) rows) (t .entry) 0 (t .first)
+            (inr (not-bad (s .good), inr (λ h. omega arith, inr (λ n. n as-left, refl)))) in
             let g = t .goes entry in
             let turn : Turn F (q .k - 1) (q .l) a (o .rows) (o .row) (g .outcome) = rw (s .rows-are) at (g .turn) in
             let run = run-then (s .run) turn in
@@ -141,7 +148,17 @@ module _ (q : Request) where
                 list = s .list ++ (a ∷ []);
                 outcome = after F o (g .outcome);
                 run = run;
-                good = record { size = good .size; some = good .some; most = good .most; low = good .low; degree = good .degree; heights = good .heights; row = omega arith; last = p .kept .inside };
+                good =
+                    record {
+                      size = good .size;
+                      some = good .some;
+                      most = good .most;
+                      low = good .low;
+                      degree = good .degree;
+                      heights = good .heights;
+                      row = omega arith;
+                      last = p .kept .inside;
+                    };
                 bytes = holds-bytes (shapeFor q) new (g .outcome .rows) (g .rows) (s .bytes .fine) (omega arith);
                 rows-are = holds-flat (shapeFor q) new (g .outcome .rows) (g .rows) flat (p .kept .sound .light);
                 note-is = g .next;
@@ -161,7 +178,8 @@ module _ (q : Request) where
         let positive = formula-positive (length (q .points)) (q .k) (q .m) (q .l) (s .good .degree) (s .good .heights .some) in
         promise .finished (allowed-some (s .list) (omega arith)) (rw bound-is h)
 
-    stands-hands : o .row ≡ suc (q .l) → {before new : List ℕ} {back : Finished} → HasFinished (noteFor q (o .row)) rows before new back → curveBytes (shapeFor q) ≤ length before → HandsCurve q new back
+    stands-hands : o .row ≡ suc (q .l) → {before new : List ℕ} {back : Finished} → HasFinished (noteFor q (o .row)) rows before new back
+        → curveBytes (shapeFor q) ≤ length before → HandsCurve q new back
     stands-hands e {before} {new} {back} f room =
         record {
           done = done;
@@ -170,7 +188,9 @@ module _ (q : Request) where
           only = λ P p. run-unique Φ (s .begins) (s .run) e P Q p smallest;
           bytes = hands .bytes;
           weight = sym weight;
-          light = rw weight (lead-light (hands .lightest .lead) (shapeFor q .width) (promise .kept .sound .light (hands .row) (hands .lightest .inside)));
+          light =
+              rw weight (lead-light (hands .lightest .lead) (shapeFor q .width)
+              (promise .kept .sound .light (hands .row) (hands .lightest .inside)));
           height = monic-height Φ (hands .lightest .lead) (hands .tall);
         }
       where
@@ -201,7 +221,8 @@ module _ (q : Request) where
           accepted = λ a new back t. stands-turned t .0;
           numbers = s .note-is ∙ ap (noteFor q) (sym row-is);
           generated = rw (s .rows-are) (run-generates Φ (s .begins) (s .run));
-          leads = λ i h. let k = promise .kept .inside in rw (s .rows-are) (promise .kept .sound .own i (omega (arith, row-is)) (omega (arith, row-is)));
+          leads = λ i h. let k = promise .kept .inside in
+              rw (s .rows-are) (promise .kept .sound .own i (omega (arith, row-is)) (omega (arith, row-is)));
           bounded = let c = promise .count in let e = s .made-is in omega (arith, bound-is);
           finished = λ h. row-is ∙ stands-finished (rw (s .sum-is) at h);
           curve = λ e before new back h room. stands-hands (sym row-is ∙ e) (rw (s .note-is) at h) room;
@@ -215,6 +236,9 @@ module _ (q : Request) where
   demand-3 d = stands-pause (driven-stands d)
 
   -- an accepted start, one turn with an allowance of the formula or more, and a finish with room give the curve of demand 2
-  pub demand-2 : {before rows new lent curve : List ℕ} {start : Started} {turn : Turned} {finish : Finished} {allowance : ℕ} → Begun q before rows start → updatesBound q ≤ allowance
-      → HasTurned (start .note) allowance rows new turn → HasFinished (turn .note) new lent curve finish → curveBytes (shapeFor q) ≤ length lent → HandsCurve q curve finish
-  demand-2 {lent = lent} {curve} {finish = finish} {allowance} b le t f room = let p = demand-3 (turned allowance (started b) t) in p .curve (p .finished (omega arith)) lent curve finish f room
+  pub demand-2 : {before rows new lent curve : List ℕ} {start : Started} {turn : Turned} {finish : Finished} {allowance : ℕ}
+      → Begun q before rows start → updatesBound q ≤ allowance
+      → HasTurned (start .note) allowance rows new turn → HasFinished (turn .note) new lent curve finish → curveBytes (shapeFor q) ≤ length lent
+      → HandsCurve q curve finish
+  demand-2 {lent = lent} {curve} {finish = finish} {allowance} b le t f room =
+      let p = demand-3 (turned allowance (started b) t) in p .curve (p .finished (omega arith)) lent curve finish f room

@@ -51,7 +51,10 @@ module _ {p : ℕ} {points word : List ℕ} {k m l : ℕ} {before : List ℕ} wh
           ∙ sym (g .rows (sym same ∙ z) (t .0) (t .1) (r .row) (r .power) (r .degree) (r .inside) (r .low) (r .short)))
 
       go : Dec (back .number ≡ 0) → (back ≡ other) × (after ≡ also)
-      go (yes z) = (started-same same (f .note z ∙ sym (g .note (sym same ∙ z))), untouched-unique (rowsBytes (shape p (length points) k m l)) (f .rest) (g .rest) (byte z))
+      go (yes z) = (
+        started-same same (f .note z ∙ sym (g .note (sym same ∙ z))),
+        untouched-unique (rowsBytes (shape p (length points) k m l)) (f .rest) (g .rest) (byte z),
+      )
       go (no z) =
           let x = f .refused z in
           let y = g .refused (λ e. z (same ∙ e)) in
@@ -63,7 +66,8 @@ turned-same {a} {b} n m u =
     ap (λ (x : ℕ). record { number = x; note = a .note; updates = a .updates }) n
     ∙ ap₂ (λ (x : Note) (y : ℕ). record { number = b .number; note = x; updates = y }) m u
 
-module _ {note : Note} {allowance : ℕ} {before after also : List ℕ} {a b : Turned} (f : Goes note allowance before after a) (g : Goes note allowance before also b) where
+module _ {note : Note} {allowance : ℕ} {before after also : List ℕ} {a b : Turned} (f : Goes note allowance before after a)
+    (g : Goes note allowance before also b) where
   outcome-same : f .outcome ≡ g .outcome
   outcome-same = rule-determined (f .turn) (g .turn)
 
@@ -84,7 +88,8 @@ module _ {note : Note} {allowance : ℕ} {before after also : List ℕ} {a b : T
 
 -- two outcomes of a turn for the same note, allowance and rows are the same
 module _ {note : Note} {allowance : ℕ} {before : List ℕ} where
-  pub turn-determined : {after also : List ℕ} {a b : Turned} → HasTurned note allowance before after a → HasTurned note allowance before also b → (a ≡ b) × (after ≡ also)
+  pub turn-determined : {after also : List ℕ} {a b : Turned} → HasTurned note allowance before after a → HasTurned note allowance before also b
+      → (a ≡ b) × (after ≡ also)
   turn-determined {after} {also} {a} {b} f g = go (ℕ-discrete (f .entry) 0)
     where
       same : f .entry ≡ g .entry
@@ -104,14 +109,16 @@ module _ {note : Note} {allowance : ℕ} {before : List ℕ} where
           y = g .goes (sym same ∙ e)
 
   -- so are two outcomes of a turn in place
-  pub in-place-determined : {after also : List ℕ} {m k : Made} {o p : Note} → HasTurned note allowance before after (withNote m o) → HasTurned note allowance before also (withNote k p)
+  pub in-place-determined : {after also : List ℕ} {m k : Made} {o p : Note} → HasTurned note allowance before after (withNote m o)
+      → HasTurned note allowance before also (withNote k p)
       → (m ≡ k) × (o ≡ p) × (after ≡ also)
   in-place-determined f g =
       let e = turn-determined f g in
       (ap (λ (t : Turned). record { number = t .number; updates = t .updates }) (e .0), ap (λ (t : Turned). t .note) (e .0), e .1)
 
 -- finish: what is handed over is only one
-module _ {S : Shape} {rows : ℕ → Curve (symbols (S .p) .ring)} {curve also : List ℕ} {w h v g : ℕ} (a : Hands S rows curve w h) (b : Hands S rows also v g) where
+module _ {S : Shape} {rows : ℕ → Curve (symbols (S .p) .ring)} {curve also : List ℕ} {w h v g : ℕ} (a : Hands S rows curve w h)
+    (b : Hands S rows also v g) where
   hands-same : (a .row ≡ b .row) × (w ≡ v)
   hands-same = lightest-unique (a .lightest) (b .lightest)
 
@@ -132,7 +139,8 @@ finished-same {a} {b} n w h =
 
 -- two outcomes of finish for the same arguments are the same
 module _ {note : Note} {rows before : List ℕ} where
-  pub finish-determined : {after also : List ℕ} {a b : Finished} → HasFinished note rows before after a → HasFinished note rows before also b → (a ≡ b) × (after ≡ also)
+  pub finish-determined : {after also : List ℕ} {a b : Finished} → HasFinished note rows before after a → HasFinished note rows before also b
+      → (a ≡ b) × (after ≡ also)
   finish-determined {after} {also} {a} {b} f g = go (ℕ-discrete (a .number) 0)
     where
       same : a .number ≡ b .number
@@ -145,5 +153,7 @@ module _ {note : Note} {rows before : List ℕ} where
           (finished-same same (x .0 ∙ sym (y .0)) (x .1 ∙ sym (y .1)), x .2 ∙ sym (y .2))
       go (yes e) =
           let x = f .curve e in
-          let y = g .curve (sym same ∙ e) in
-          (finished-same same (hands-same x y .1) (hands-height x y), untouched-unique (curveBytes (shapeOf note)) (f .rest) (g .rest) (λ q k. hands-bytes x y k))
+          let y = g .curve (sym same ∙ e) in (
+            finished-same same (hands-same x y .1) (hands-height x y),
+            untouched-unique (curveBytes (shapeOf note)) (f .rest) (g .rest) (λ q k. hands-bytes x y k),
+          )

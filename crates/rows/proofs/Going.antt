@@ -54,7 +54,8 @@ turn-ready {note} {xs} first z =
     let left = as-left-stable unstable in
     record { good = bad; bytes = bytes-below (good-fine (good-note bad)) (omega arith) (left .below); sound = left .sound }
 
-pub going-begins : {S : Shape} {note : Note} {xs : List ℕ} (allowance : ℕ) → S ≡ shapeOf note → Ready note xs → Going S (note .r) allowance xs xs (note .r) allowance
+pub going-begins : {S : Shape} {note : Note} {xs : List ℕ} (allowance : ℕ) → S ≡ shapeOf note → Ready note xs
+    → Going S (note .r) allowance xs xs (note .r) allowance
 going-begins {S} {note} {xs} allowance is ready = rw is begun
   where
     begun : Going (shapeOf note) (note .r) allowance xs xs (note .r) allowance
@@ -100,7 +101,8 @@ module _ {S : Shape} {start allowance : ℕ} {before xs : List ℕ} {r left : �
   pub going-below : r ≤ S .l → {w s : ℕ} → Lead R (S .u) w s (rows r) → s ≢ r → s < r
   going-below h lead n = let k = lead-within lead (suc r) (g .sound .low r h (omega arith)) in omega arith
 
-  pub going-crosses : r ≤ S .l → {w s : ℕ} → Lead R (S .u) w s (rows r) → s ≢ r → (found : Found) → FoundLead R (S .u) (rows s) found → Crosses S xs r w s (found .weight)
+  pub going-crosses : r ≤ S .l → {w s : ℕ} → Lead R (S .u) w s (rows r) → s ≢ r → (found : Found) → FoundLead R (S .u) (rows s) found
+      → Crosses S xs r w s (found .weight)
   going-crosses h {w} {s} lead n found f =
       let b = going-below h lead n in
       let k : s ≤ S .l = omega arith in
@@ -117,11 +119,13 @@ module _ {S : Shape} {start allowance : ℕ} {before xs : List ℕ} {r left : �
         lead-s = rw e at l;
       }
 
-module _ {S : Shape} {start allowance : ℕ} {before xs : List ℕ} {r left w s v : ℕ} (g : Going S start allowance before xs r left) (x : Crosses S xs r w s v) where
+module _ {S : Shape} {start allowance : ℕ} {before xs : List ℕ} {r left w s v : ℕ} (g : Going S start allowance before xs r left)
+    (x : Crosses S xs r w s v) where
   abbrev new : ℕ → Curve (symbols (S .p) .ring)
   new = update (symbols (S .p)) (S .u) r w s v (rowsOf S xs)
 
-  pub going-updates : (ys : List ℕ) → 0 < left → (Zero (symbols (S .p) .ring) (new r) → ⊥) → Holds S ys new → Untouched (rowsBytes S) xs ys → Going S start allowance before ys r (left - 1)
+  pub going-updates : (ys : List ℕ) → 0 < left → (Zero (symbols (S .p) .ring) (new r) → ⊥) → Holds S ys new → Untouched (rowsBytes S) xs ys
+      → Going S start allowance before ys r (left - 1)
   going-updates ys h n holds u =
       let k = g .within in
       let room = x .bytes .room in
@@ -150,13 +154,16 @@ module _ {S : Shape} {start allowance : ℕ} {before xs : List ℕ} {r left w s 
           rw m (g .back (counted (symbols (S .p)) o) (rw a (updates {r = r} w s v (due x) n (rw is at t))))
 
 -- the three ends
-module _ {S : Shape} {note : Note} {allowance : ℕ} {before xs : List ℕ} {r left : ℕ} (is : S ≡ shapeOf note) (g : Going S (note .r) allowance before xs r left)
+module _ {S : Shape} {note : Note} {allowance : ℕ} {before xs : List ℕ} {r left : ℕ} (is : S ≡ shapeOf note)
+    (g : Going S (note .r) allowance before xs r left)
     {back : Turned} (next : back .note ≡ atRow note r) (made : back .updates ≡ allowance - left) where
-  ends : (number : ℕ) → back .number ≡ number → Turn (symbols (S .p)) (S .u) (S .l) left (rowsOf S xs) r (stops (symbols (S .p)) number (rowsOf S xs) r) → Went note allowance before xs back
+  ends : (number : ℕ) → back .number ≡ number → Turn (symbols (S .p)) (S .u) (S .l) left (rowsOf S xs) r
+      (stops (symbols (S .p)) number (rowsOf S xs) r) → Went note allowance before xs back
   ends number e t = go (rw is at g) (rw is at t)
     where
       go : Going (shapeOf note) (note .r) allowance before xs r left
-          → Turn (symbols (note .p)) (note .k - 1) (note .l) left (rowsOf (shapeOf note) xs) r (stops (symbols (note .p)) number (rowsOf (shapeOf note) xs) r) → Went note allowance before xs back
+          → Turn (symbols (note .p)) (note .k - 1) (note .l) left (rowsOf (shapeOf note) xs) r
+          (stops (symbols (note .p)) number (rowsOf (shapeOf note) xs) r) → Went note allowance before xs back
       go g t =
           record {
             goes = record {
@@ -173,10 +180,12 @@ module _ {S : Shape} {note : Note} {allowance : ℕ} {before xs : List ℕ} {r l
   pub ends-finished : S .l < r → back .number ≡ 0 → Went note allowance before xs back
   ends-finished h e = ends 0 e (finished h)
 
-  pub ends-paused : r ≤ S .l → {w s : ℕ} → Lead (symbols (S .p) .ring) (S .u) w s (rowsOf S xs r) → s ≢ r → left ≡ 0 → back .number ≡ 0 → Went note allowance before xs back
+  pub ends-paused : r ≤ S .l → {w s : ℕ} → Lead (symbols (S .p) .ring) (S .u) w s (rowsOf S xs r) → s ≢ r → left ≡ 0 → back .number ≡ 0
+      → Went note allowance before xs back
   ends-paused h {w} {s} lead n z e = ends 0 e (rw z (pauses {r = r} w s h lead n))
 
-  pub ends-halted : {w s v : ℕ} (x : Crosses S xs r w s v) → 0 < left → Zero (symbols (S .p) .ring) (update (symbols (S .p)) (S .u) r w s v (rowsOf S xs) r) → back .number ≡ 11 → Went note allowance before xs back
+  pub ends-halted : {w s v : ℕ} (x : Crosses S xs r w s v) → 0 < left
+      → Zero (symbols (S .p) .ring) (update (symbols (S .p)) (S .u) r w s v (rowsOf S xs) r) → back .number ≡ 11 → Went note allowance before xs back
   ends-halted {w} {s} {v} x h z e =
       let a : left ≡ suc (left - 1) = omega arith in
       ends 11 e (rw a (halts {r = r} w s v (due x) z))

@@ -30,7 +30,8 @@ module _ (S : Shape) where
         go j e (yes h) (no k) = rowsOf-boxed S xs i j e (inr (inr (omega arith))) ∙ sym (light j e (omega arith) (λ _. zero-le))
 
   module _ (xs : List ℕ) (rows : ℕ → Curve (symbols (S .p) .ring)) (holds : Holds S xs rows) where
-    pub holds-flat : Flat (symbols (S .p) .ring) (S .l) rows → ((i : ℕ) → i ≤ S .l → Under (symbols (S .p) .ring) (S .u) (suc (S .width)) zero (rows i)) → rowsOf S xs ≡ rows
+    pub holds-flat : Flat (symbols (S .p) .ring) (S .l) rows
+        → ((i : ℕ) → i ≤ S .l → Under (symbols (S .p) .ring) (S .u) (suc (S .width)) zero (rows i)) → rowsOf S xs ≡ rows
     holds-flat flat light = fun-ext (λ i. go i (decLe i (S .l)))
       where
         go : (i : ℕ) → Dec (i ≤ S .l) → rowsOf S xs i ≡ rows i

@@ -35,7 +35,8 @@ fine-shape {p} {n} {k} {m} {l} ps np kn h =
     let b = h .high in
     let c = h .most in
     let mn : m * n ≤ m * fieldMost = mul-le-mul {n₁ = m} {m₁ = n} {n₂ = m} {m₂ = fieldMost} (omega arith) (omega arith) in
-    let lu : (l - m) * (k - 1) ≤ (heightMost - m) * 29 = mul-le-mul {n₁ = l - m} {m₁ = k - 1} {n₂ = heightMost - m} {m₂ = 29} (omega arith) (omega arith) in
+    let lu : (l - m) * (k - 1) ≤ (heightMost - m) * 29 =
+    mul-le-mul {n₁ = l - m} {m₁ = k - 1} {n₂ = heightMost - m} {m₂ = 29} (omega arith) (omega arith) in
     let mu : m * (k - 1) ≤ m * n = mul-le-mul {n₁ = m} {m₁ = k - 1} {n₂ = m} {m₂ = n} (omega arith) (omega arith) in
     let parts : l ≡ m + (l - m) = omega arith in
     let whole : (k - 1) * l ≡ m * (k - 1) + (l - m) * (k - 1) = mul-comm (k - 1) l ∙ ap (λ (x : ℕ). x * (k - 1)) parts ∙ add-mul m (l - m) (k - 1) in

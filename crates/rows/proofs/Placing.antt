@@ -48,7 +48,8 @@ module _ (S : Shape) where
       omega arith
 
   -- a byte of another row is outside row r
-  pub place-apart : {i r j e : ℕ} → (i ≡ r → ⊥) → j ≤ S .l → e ≤ S .width → (place S i j e < r * curveBytes S) ⊎ (r * curveBytes S + curveBytes S ≤ place S i j e)
+  pub place-apart : {i r j e : ℕ} → (i ≡ r → ⊥) → j ≤ S .l → e ≤ S .width
+      → (place S i j e < r * curveBytes S) ⊎ (r * curveBytes S + curveBytes S ≤ place S i j e)
   place-apart {i} {r} {j} {e} n h k = go (decLt i r)
     where
       go : Dec (i < r) → (place S i j e < r * curveBytes S) ⊎ (r * curveBytes S + curveBytes S ≤ place S i j e)
@@ -145,7 +146,8 @@ module _ (S : Shape) (ys : List ℕ) (rows : ℕ → Curve (symbols (S .p) .ring
         room = room;
         below = λ q h.
             let r = in-rows S h in
-            rw (r .is, holds (r .row) (r .power) (r .degree) (r .inside) (r .low) (r .short)) (byte-below (fine .size) (rows (r .row) (r .power) (r .degree)));
+            rw (r .is, holds (r .row) (r .power) (r .degree) (r .inside) (r .low) (r .short))
+            (byte-below (fine .size) (rows (r .row) (r .power) (r .degree)));
       }
 
 module _ {S : Shape} {xs : List ℕ} (b : Bytes S xs) where
@@ -166,5 +168,6 @@ module _ {S : Shape} {xs : List ℕ} (b : Bytes S xs) where
   pub light-row : {i : ℕ} → i ≤ S .l → Under (symbols (S .p) .ring) (S .u) (suc (S .width)) zero (rowsOf S xs i) → LightRow S xs i
   light-row {i} g under j e h k l = rowsOf-zero g h k (under j e l (λ _. zero-le))
 
-pub light-curve : (S : Shape) (xs : List ℕ) {i : ℕ} → i ≤ S .l → LightRow S xs i → Under (symbols (S .p) .ring) (S .u) (suc (S .width)) zero (rowsOf S xs i)
+pub light-curve : (S : Shape) (xs : List ℕ) {i : ℕ} → i ≤ S .l → LightRow S xs i
+    → Under (symbols (S .p) .ring) (S .u) (suc (S .width)) zero (rowsOf S xs i)
 light-curve S xs g light j e l _ = rowsOf-null S xs g j e (λ h k. light j e h k l)

@@ -26,6 +26,11 @@ module _ {p : ℕ} {points word : List ℕ} {k m l : ℕ} {rows : List ℕ} (a :
   S = shape p n k m l
 
   -- the 64 bytes are h and e
-  module _ {work : List ℕ} (t : Interpolated p points word n work) {h : Seq R} (through : Through R n (symbolsOf p points) (symbolsOf p word) h) where
+  module _ {work : List ℕ} (t : Interpolated p points word n work) {h : Seq R}
+      (through : Through R n (symbolsOf p points) (symbolsOf p word) h) where
     pub accepted-rows : (after : List ℕ) → Filled S m work after → Holds S after (startRow R m (locator R n (symbolsOf p points)) h)
-    accepted-rows after f = rw (interpolated-h (a .places) t (omega arith) ∙ interpolated-only (a .places) t (omega arith) through, interpolated-e (a .places) t (omega arith)) at f
+    accepted-rows after f =
+        rw (
+          interpolated-h (a .places) t (omega arith) ∙ interpolated-only (a .places) t (omega arith) through,
+          interpolated-e (a .places) t (omega arith),
+        ) at f

@@ -36,7 +36,8 @@ pub record Copies (from to len : ℕ) (xs : List ℕ) : Type 0 where
 
 pub record Power (p : ℕ) (f : List ℕ) (count at len : ℕ) (before after : List ℕ) : Type 0 where
   pub kept : Kept at len before after
-  pub power : (i : ℕ) → i < len → getD after (at + i) 0 ≡ mulS (symbols p .ring) (pow (Series (symbols p .ring)) (symbolsOf p f) count) (from p before at) i .byte
+  pub power : (i : ℕ) → i < len
+      → getD after (at + i) 0 ≡ mulS (symbols p .ring) (pow (Series (symbols p .ring)) (symbolsOf p f) count) (from p before at) i .byte
 
 abbrev pub slotsAt : (p base slot : ℕ) → List ℕ → Curve (symbols p .ring)
 slotsAt p base slot xs = λ j. from p xs (base + j * slot)

@@ -71,7 +71,8 @@ LightRow S xs i = (j e : ℕ) → j ≤ S .l → e ≤ S .width → S .width < e
 pub data Heavier (found : Found) (size lift j : ℕ) : Found → Type 0 where
   absent : size ≡ 0 → Heavier found size lift j found
   lighter : 0 < size → found .some ≡ true → size - 1 + lift ≤ found .weight → Heavier found size lift j found
-  heavier : 0 < size → (found .some ≡ true → found .weight < size - 1 + lift) → Heavier found size lift j (record { some = true; weight = size - 1 + lift; power = j })
+  heavier : 0 < size → (found .some ≡ true → found .weight < size - 1 + lift)
+      → Heavier found size lift j (record { some = true; weight = size - 1 + lift; power = j })
 
 pub record FoundLead (R : Ring) (u : ℕ) (Q : Curve R) (found : Found) : Type 0 where
   pub none : found .some ≡ false → Zero R Q
@@ -110,7 +111,8 @@ pub record Slots (S : Shape) (c a b : ℕ) (xs : List ℕ) : Type 0 where
 
 -- x^up times the slot at a, less c x^down times the slot at b, is zero
 abbrev pub SlotVanishes : Shape → ℕ → ℕ → ℕ → ℕ → ℕ → List ℕ → Type 0
-SlotVanishes S c a up b down xs = (e : ℕ) → e ≤ S .width → minusBytes (S .p) (delayedByte xs a up e) (timesBytes (S .p) c (delayedByte xs b down e)) ≡ 0
+SlotVanishes S c a up b down xs =
+    (e : ℕ) → e ≤ S .width → minusBytes (S .p) (delayedByte xs a up e) (timesBytes (S .p) c (delayedByte xs b down e)) ≡ 0
 
 pub record Exchanges (a b len : ℕ) (xs : List ℕ) : Type 0 where
   pub first : a + len ≤ length xs

@@ -14,7 +14,8 @@ use field::Symbol;
 // The leading coefficient of row r over that of row s.
 fn ratio(rows: &[u8], shape: Shape, r: usize, w: usize, s: usize, v: usize) -> Symbol
     requires { ⌜ Crosses shape (now rows) r w s v ⌝ }
-    ensures { λ c. ⌜ c .value ≡ ratioOf (symbols (shape .p)) (shape .u) s w v (rowsOf shape (now (rows .entry)) r) (rowsOf shape (now (rows .entry)) s) .byte ⌝ }
+    ensures { λ c. ⌜ c .value ≡ ratioOf (symbols (shape .p)) (shape .u) s w v (rowsOf shape (now (rows .entry)) r)
+        (rowsOf shape (now (rows .entry)) s) .byte ⌝ }
 {
     let p = shape.p;
     let lift = shape.u * s;
@@ -77,7 +78,8 @@ fn beyond(a: usize, b: usize) -> usize
 // Whether the update would make row r zero.
 pub fn vanishes(rows: &[u8], shape: Shape, r: usize, w: usize, s: usize, v: usize) -> bool
     requires { ⌜ Crosses shape (now rows) r w s v ⌝ }
-    ensures { λ b. ⌜ Decided b (Zero (symbols (shape .p) .ring) (updateOf (symbols (shape .p)) (shape .u) r w s v (rowsOf shape (now (rows .entry))) r)) ⌝ }
+    ensures { λ b. ⌜ Decided b
+        (Zero (symbols (shape .p) .ring) (updateOf (symbols (shape .p)) (shape .u) r w s v (rowsOf shape (now (rows .entry))) r)) ⌝ }
 {
     let c = ratio(rows, shape, r, w, s, v);
     let up = beyond(v, w);
@@ -113,7 +115,8 @@ fn swap(rows: &mut [u8], a: usize, b: usize, len: usize)
 // in one run over its bytes.
 pub fn update(rows: &mut [u8], shape: Shape, r: usize, w: usize, s: usize, v: usize)
     requires { ⌜ Crosses shape (now rows) r w s v ⌝ }
-    ensures { λ _. ⌜ Holds shape (now (rows .exit)) (updateOf (symbols (shape .p)) (shape .u) r w s v (rowsOf shape (now (rows .entry)))) × Untouched (rowsBytes shape) (now (rows .entry)) (now (rows .exit)) ⌝ }
+    ensures { λ _. ⌜ Holds shape (now (rows .exit)) (updateOf (symbols (shape .p)) (shape .u) r w s v (rowsOf shape (now (rows .entry))))
+        × Untouched (rowsBytes shape) (now (rows .entry)) (now (rows .exit)) ⌝ }
 {
     let p = shape.p;
     let len = crate::layout::curve_bytes(shape);

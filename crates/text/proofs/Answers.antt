@@ -13,7 +13,8 @@ abbrev first : Reply → List ℕ
 first o = line (bytes "answer=") (decimal (o .number))
 
 -- with another number than 0 the first line is all
-pub first-alone : (o : Reply) {before after : List ℕ} {bound r : ℕ} → (o .number ≡ 0 → ⊥) → Put before 0 (first o) bound after r → Put before 0 (answer o) bound after r
+pub first-alone : (o : Reply) {before after : List ℕ} {bound r : ℕ} → (o .number ≡ 0 → ⊥) → Put before 0 (first o) bound after r
+    → Put before 0 (answer o) bound after r
 unfolding details
 first-alone o {before} {after} {bound} {r} h p =
     subst (λ (l : List ℕ). Put before 0 l bound after r) (sym (ap (λ (l : List ℕ). first o ++ l) (none (o .number) h) ∙ append-nil (first o))) p
@@ -22,7 +23,8 @@ first-alone o {before} {after} {bound} {r} h p =
     none zero h = absurd (h refl)
     none (suc n) h = refl
 
-pub all-lines : (o : Reply) {before after : List ℕ} {bound r : ℕ} → o .number ≡ 0 → Put before 0 (first o ++ details 0 o) bound after r → Put before 0 (answer o) bound after r
+pub all-lines : (o : Reply) {before after : List ℕ} {bound r : ℕ} → o .number ≡ 0 → Put before 0 (first o ++ details 0 o) bound after r
+    → Put before 0 (answer o) bound after r
 all-lines o {before} {after} {bound} {r} e p = subst (λ (n : ℕ). Put before 0 (first o ++ details n o) bound after r) (sym e) p
 
 pub has-written : (o : Reply) {before after : List ℕ} {bound r : ℕ} → room o ≤ length before → o .count * o .k ≤ length (o .messages)

@@ -24,13 +24,15 @@ digits-enough (suc a) (suc b) n h k = go (digits-enough a b (n / 10)) (decLt n 1
   where
     go : (n / 10 < a → n / 10 < b → digits a (n / 10) ≡ digits b (n / 10)) → Dec (n < 10) → digits (suc a) n ≡ digits (suc b) n
     go e (yes l) = digits-low a n l ∙ sym (digits-low b n l)
-    go e (no l) = digits-high a n (omega arith) ∙ ap (λ (xs : List ℕ). xs ++ (48 + n % 10) ∷ []) (e (omega arith) (omega arith)) ∙ sym (digits-high b n (omega arith))
+    go e (no l) = digits-high a n (omega arith) ∙ ap (λ (xs : List ℕ). xs ++ (48 + n % 10) ∷ []) (e (omega arith) (omega arith))
+        ∙ sym (digits-high b n (omega arith))
 
 pub decimal-low : (n : ℕ) → n < 10 → decimal n ≡ (48 + n) ∷ []
 decimal-low n = digits-low n n
 
 pub decimal-high : (n : ℕ) → 10 ≤ n → decimal n ≡ decimal (n / 10) ++ (48 + n % 10) ∷ []
-decimal-high n h = digits-high n n h ∙ ap (λ (xs : List ℕ). xs ++ (48 + n % 10) ∷ []) (digits-enough n (suc (n / 10)) (n / 10) (omega arith) (omega arith))
+decimal-high n h =
+    digits-high n n h ∙ ap (λ (xs : List ℕ). xs ++ (48 + n % 10) ∷ []) (digits-enough n (suc (n / 10)) (n / 10) (omega arith) (omega arith))
 
 pub decimal-short : (d n : ℕ) → n < 10 ^ suc d → length (decimal n) ≤ suc d
 decimal-short zero n h = rw (decimal-low n (omega arith)) (omega arith)

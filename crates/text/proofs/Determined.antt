@@ -29,5 +29,6 @@ write-determined {o = o} {before = before} (refused e) (written h k) = absurd (e
 write-determined (refused e) (refused f) = (refl, refl)
 
 pub write-within : {o : Reply} {before after : List ℕ} {r : ℕ} → HasWritten o before after r → length after ≡ length before → r ≤ length before
-write-within {o = o} {before = before} (written h k) e = omega (arith, length-append (answer o) (drop (length (answer o)) before), length-drop (length (answer o)) before)
+write-within {o = o} {before = before} (written h k) e =
+    omega (arith, length-append (answer o) (drop (length (answer o)) before), length-drop (length (answer o)) before)
 write-within (refused h) e = omega arith

@@ -44,7 +44,8 @@ pub record Same {A : Type 0} (x y : A) (R S : List ℕ → Type 0) : Type 0 wher
 pub line-same : {A : Type 0} {Value : List ℕ → A → Type 0} {key text : List ℕ} {x y : A} {R S : List ℕ → Type 0} → Plain Value
     → Line key (λ v. Value v x) R text → Line key (λ v. Value v y) S text → Same x y R S
 line-same {Value = Value} {key = key} {x = x} {y = y} {S = S} plain a b =
-    let e = line-parts key (a .value) (b .value) (a .rest) (b .rest) (plain .free (a .value) x (a .means)) (plain .free (b .value) y (b .means)) (sym (a .is) ∙ b .is) in
+    let e = line-parts key (a .value) (b .value) (a .rest) (b .rest) (plain .free (a .value) x (a .means)) (plain .free (b .value) y (b .means))
+    (sym (a .is) ∙ b .is) in
     record {
       is = plain .same (b .value) x y (subst (λ v. Value v x) (e .0) (a .means)) (b .means);
       rest = a .rest;

@@ -33,7 +33,8 @@ none-yet text = record {
   parts = λ ns r. (ns, refl, r);
 }
 
-holds-more : (xs items : List ℕ) (count n : ℕ) → count < fieldMost → HoldsNumbers xs count items → HoldsNumbers (xs ++ n ∷ []) (count + 1) (set items count n)
+holds-more : (xs items : List ℕ) (count n : ℕ) → count < fieldMost → HoldsNumbers xs count items
+    → HoldsNumbers (xs ++ n ∷ []) (count + 1) (set items count n)
 holds-more xs items count n h held =
     let long : length (xs ++ n ∷ []) ≡ count + 1 = rw length-append (omega (arith, held .counted)) in
     let zeros : List ℕ = replicate (fieldMost - length (xs ++ n ∷ [])) 0 in
@@ -69,11 +70,16 @@ module _ {text items : List ℕ} {count at to : ℕ} (so : SoFar text items coun
     whole = λ ns s. rw append-snoc (so .whole (n ∷ ns) (rw (seek-seam ends h) (more r s)));
     parts = λ ns s.
         let p = so .parts ns s in
-        let q = parted h (p .2) in
-        (q .others, p .1 ∙ ap (λ (l : List ℕ). so .read ++ l) (q .is ∙ ap (λ (x : ℕ). x ∷ q .others) (number-same (q .head) r)) ∙ sym (append-snoc (so .read) n (q .others)), q .tail);
+        let q = parted h (p .2) in (
+          q .others,
+          p .1 ∙ ap (λ (l : List ℕ). so .read ++ l) (q .is
+              ∙ ap (λ (x : ℕ). x ∷ q .others) (number-same (q .head) r)) ∙ sym (append-snoc (so .read) n (q .others)),
+          q .tail,
+        );
   }
 
-  pub last-item : (n : ℕ) → count < fieldMost → length text ≤ to → Number (part at to text) n → ReadsNumbers text true (count + 1) (set items count n)
+  pub last-item : (n : ℕ) → count < fieldMost → length text ≤ to → Number (part at to text) n
+      → ReadsNumbers text true (count + 1) (set items count n)
   last-item n c h r =
       let held = holds-more (so .read) items count n c (so .held) in
       let listed : FewNumbers text (so .read ++ n ∷ []) =

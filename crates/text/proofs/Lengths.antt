@@ -20,7 +20,8 @@ listed-short : {text ns : List ℕ} → FewNumbers text ns → length text ≤ 1
 listed-short r = omega (arith, numbers-short (r .numbers))
 
 -- a line is as long as its key, its value, a line feed and the rest
-line-long : {key text : List ℕ} {Value Rest : List ℕ → Type 0} (a : Line key Value Rest text) → length text ≡ length key + length (a .value) + 1 + length (a .rest)
+line-long : {key text : List ℕ} {Value Rest : List ℕ → Type 0} (a : Line key Value Rest text)
+    → length text ≡ length key + length (a .value) + 1 + length (a .rest)
 line-long a = rw (a .is) (simp length-append (omega arith))
 
 pub readable-short : {text : List ℕ} {r : Meaning} → Readable text r → length text ≤ 294

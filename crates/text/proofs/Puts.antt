@@ -35,7 +35,8 @@ module _ {before after : List ℕ} {at next : ℕ} {text : List ℕ} {bound : �
   head-long = length-append (take at before) text ∙ rw (length-take-le at before (omega (arith, p .room))) (sym (p .ends))
 
   pub put-long : length after ≡ length before
-  put-long = ap length (p .is) ∙ length-append (take at before ++ text) (drop next before) ∙ rw (head-long, length-drop) (omega (arith, p .ends, p .room))
+  put-long =
+      ap length (p .is) ∙ length-append (take at before ++ text) (drop next before) ∙ rw (head-long, length-drop) (omega (arith, p .ends, p .room))
 
   pub put-bound : {more : ℕ} → bound ≤ more → Put before at text more after next
   put-bound h = record { short = omega (arith, p .short); room = p .room; ends = p .ends; is = p .is }
@@ -46,15 +47,18 @@ module _ {before after : List ℕ} {at next : ℕ} {text : List ℕ} {bound : �
       ∙ ap (drop n) (ap (drop next) (p .is) ∙ drop-at (take at before ++ text) (drop next before) next head-long)
       ∙ drop-drop n next before
 
-  pub put-join : {last : List ℕ} {end : ℕ} {more : List ℕ} {size : ℕ} → Put after next more size last end → Put before at (text ++ more) (bound + size) last end
+  pub put-join : {last : List ℕ} {end : ℕ} {more : List ℕ} {size : ℕ} → Put after next more size last end
+      → Put before at (text ++ more) (bound + size) last end
   put-join {last} {end} {more} {size} q =
-      let head : take next after ≡ take at before ++ text = ap (take next) (p .is) ∙ take-at (take at before ++ text) (drop next before) next head-long in
+      let head : take next after ≡ take at before ++ text =
+      ap (take next) (p .is) ∙ take-at (take at before ++ text) (drop next before) next head-long in
       let rest : drop end after ≡ drop end before = rw (q .ends) (rest-kept (length more)) in
       record {
         short = rw length-append (omega (arith, p .short, q .short));
         room = rw length-append (omega (arith, p .ends, q .room, put-long));
         ends = rw length-append (omega (arith, p .ends, q .ends));
-        is = q .is ∙ ap (λ (l : List ℕ). l ++ more ++ drop end after) head ∙ ap (λ (l : List ℕ). take at before ++ text ++ more ++ l) rest ∙ simp append-assoc;
+        is = q .is ∙ ap (λ (l : List ℕ). l ++ more ++ drop end after) head ∙ ap (λ (l : List ℕ). take at before ++ text ++ more ++ l) rest
+            ∙ simp append-assoc;
       }
 
 pub put-low : {before after : List ℕ} {at next n : ℕ} → n < 10 → Put before at ((48 + n) ∷ []) 1 after next → Put before at (decimal n) 5 after next
@@ -65,7 +69,8 @@ pub put-high : {before mid after : List ℕ} {at last next n : ℕ} → 10 ≤ n
     → Put before at (decimal (n / 10)) 5 mid last → Put mid last ((48 + n % 10) ∷ []) 1 after next → Put before at (decimal n) 5 after next
 put-high {n = n} h k p q =
     let s = put-join p q in
-    rw (decimal-high n h) record { short = omega (arith, decimal-short 4 n (omega arith), ap length (decimal-high n h)); room = s .room; ends = s .ends; is = s .is }
+    rw (decimal-high n h) record
+    { short = omega (arith, decimal-short 4 n (omega arith), ap length (decimal-high n h)); room = s .room; ends = s .ends; is = s .is }
 
 pub comma-first : (i : ℕ) → i ≡ 0 → comma i ≡ []
 unfolding comma

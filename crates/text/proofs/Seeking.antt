@@ -35,7 +35,8 @@ free-parts b (x ∷ xs) (y ∷ ys) p q f g e =
 pub part-long : (from to : ℕ) (text : List ℕ) → to ≤ length text → length (part from to text) ≡ to - from
 part-long from to text h = length-take-le (to - from) (drop from text) (rw length-drop (omega arith))
 
-pub part-free : (b from to : ℕ) (text : List ℕ) → to ≤ length text → ((i : ℕ) → i < to → from ≤ i → getD text i 0 ≡ b → ⊥) → Free b (part from to text)
+pub part-free : (b from to : ℕ) (text : List ℕ) → to ≤ length text → ((i : ℕ) → i < to → from ≤ i → getD text i 0 ≡ b → ⊥)
+    → Free b (part from to text)
 part-free b from to text h f i k e =
     let l : i < to - from = omega (arith, part-long from to text h) in
     f (from + i) (omega arith) (omega arith) (sym (getD-take (to - from) (drop from text) i 0 l ∙ getD-drop from text i 0) ∙ e)
@@ -48,18 +49,22 @@ part-seam from to text h k =
     ∙ ap (λ (l : List ℕ). part from to text ++ l) (drop-drop (to - from) from text ∙ rw (e, add-one, drop-cons text to 0))
 
 -- what a search knows of the text from `at` on: the part up to the byte, the byte and the rest, or the part alone
-pub seek-seam : {b : ℕ} {text : List ℕ} {at to : ℕ} → Seeks b text at to → to < length text → drop at text ≡ part at to text ++ b ∷ drop (to + 1) text
-seek-seam {text = text} {at = at} {to = to} s h = part-seam at to text (s .from) h ∙ ap (λ (b : ℕ). part at to text ++ b ∷ drop (to + 1) text) (s .there h)
+pub seek-seam : {b : ℕ} {text : List ℕ} {at to : ℕ} → Seeks b text at to → to < length text
+    → drop at text ≡ part at to text ++ b ∷ drop (to + 1) text
+seek-seam {text = text} {at = at} {to = to} s h =
+    part-seam at to text (s .from) h ∙ ap (λ (b : ℕ). part at to text ++ b ∷ drop (to + 1) text) (s .there h)
 
 pub seek-last : {b : ℕ} {text : List ℕ} {at to : ℕ} → Seeks b text at to → length text ≤ to → drop at text ≡ part at to text
 seek-last {text = text} {at = at} {to = to} s h = sym (take-all (to - at) (drop at text) (rw length-drop (omega arith)))
 
 module _ (at : ℕ) (key text : List ℕ) where
-  pub key-stands : at + length key ≤ length text → ((i : ℕ) → i < length key → getD text (at + i) 0 ≡ getD key i 0) → drop at text ≡ key ++ drop (at + length key) text
+  pub key-stands : at + length key ≤ length text → ((i : ℕ) → i < length key → getD text (at + i) 0 ≡ getD key i 0)
+      → drop at text ≡ key ++ drop (at + length key) text
   key-stands h f =
       let there = take (length key) (drop at text) in
       let long : length there ≡ length key = length-take-le (length key) (drop at text) (rw length-drop (omega arith)) in
-      let same : there ≡ key = ext-getD 0 there key long (λ i k. getD-take (length key) (drop at text) i 0 (omega arith) ∙ getD-drop at text i 0 ∙ f i (omega arith)) in
+      let same : there ≡ key =
+      ext-getD 0 there key long (λ i k. getD-take (length key) (drop at text) i 0 (omega arith) ∙ getD-drop at text i 0 ∙ f i (omega arith)) in
       sym (take-append-drop (length key) (drop at text)) ∙ rw (same, drop-drop)
 
   pub key-bytes : (rest : List ℕ) → drop at text ≡ key ++ rest → (i : ℕ) → i < length key → getD text (at + i) 0 ≡ getD key i 0

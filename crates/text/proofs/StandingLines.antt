@@ -10,7 +10,8 @@ use Rattle.text.specs.Reading.{Any, Seeks, Stands, Meant, Taken, Takes, 
 use Rattle.text.proofs.Seeking.{seek-seam, seek-last, free-not}
 use Rattle.text.proofs.Grammar.{Plain, line-flat, line-map, line-parts, line-same}
 
-module _ (key text : List ℕ) (at : ℕ) {to : ℕ} (key-is : drop at text ≡ key ++ drop (at + length key) text) (ends : Seeks 10 text (at + length key) to) where
+module _ (key text : List ℕ) (at : ℕ) {to : ℕ} (key-is : drop at text ≡ key ++ drop (at + length key) text)
+    (ends : Seeks 10 text (at + length key) to) where
   pub stands : to < length text → Stands key text at (at + length key) to
   stands h =
       let from = at + length key in
@@ -31,7 +32,8 @@ module _ {A : Type 0} {Value : List ℕ → A → Type 0} {key text : List ℕ} 
   pub takes-none : (x : A) (next : ℕ) → (Line key Any Any (drop at text) → ⊥) → Takes key Value text at false x next
   takes-none x next f = record { holds = λ e. absurd (false≢true e); fails = λ _ y a. f (line-map (λ v h. tt) (λ rest h. tt) a) }
 
-  pub takes : {from to : ℕ} {ok : Bool} {x : A} → Plain Value → Stands key text at from to → Meant ok x (Value (part from to text)) → Takes key Value text at ok x (to + 1)
+  pub takes : {from to : ℕ} {ok : Bool} {x : A} → Plain Value → Stands key text at from to → Meant ok x (Value (part from to text))
+      → Takes key Value text at ok x (to + 1)
   takes {from = from} {to = to} plain s found = record {
     holds = λ e. record {
       within = omega (arith, s .within);
@@ -41,13 +43,18 @@ module _ {A : Type 0} {Value : List ℕ → A → Type 0} {key text : List ℕ} 
   }
     where
       is-part : (y : A) (a : Line key (λ v. Value v y) Any (drop at text)) → part from to text ≡ a .value
-      is-part y a = line-parts key (part from to text) (a .value) (drop (to + 1) text) (a .rest) (s .free) (plain .free (a .value) y (a .means)) (sym (s .is) ∙ a .is) .0
+      is-part y a =
+          line-parts key (part from to text) (a .value) (drop (to + 1) text) (a .rest) (s .free) (plain .free (a .value) y (a .means))
+          (sym (s .is) ∙ a .is) .0
 
-  pub passes : {x y : A} {next : ℕ} {R : List ℕ → Type 0} → Plain Value → Taken key Value text at x next → Line key (λ v. Value v y) R (drop at text) → (x ≡ y) × R (drop next text)
+  pub passes : {x y : A} {next : ℕ} {R : List ℕ → Type 0} → Plain Value → Taken key Value text at x next
+      → Line key (λ v. Value v y) R (drop at text) → (x ≡ y) × R (drop next text)
   passes {R = R} plain t a = let s = line-same plain (t .line) a in (s .is, subst R (s .left) (s .right))
 
-  pub refuses : {ok : Bool} {x : A} {next : ℕ} {R : List ℕ → Type 0} (y : A) → Takes key Value text at ok x next → ok ≡ false → Line key (λ v. Value v y) R (drop at text) → ⊥
+  pub refuses : {ok : Bool} {x : A} {next : ℕ} {R : List ℕ → Type 0} (y : A) → Takes key Value text at ok x next → ok ≡ false
+      → Line key (λ v. Value v y) R (drop at text) → ⊥
   refuses y t e a = t .fails e y (line-map (λ v h. h) (λ rest h. tt) a)
 
-  pub goes-on : {x : A} {next : ℕ} {R : List ℕ → Type 0} → Taken key Value text at x next → R (drop next text) → Line key (λ v. Value v x) R (drop at text)
+  pub goes-on : {x : A} {next : ℕ} {R : List ℕ → Type 0} → Taken key Value text at x next → R (drop next text)
+      → Line key (λ v. Value v x) R (drop at text)
   goes-on {R = R} t h = line-map (λ v p. p) (λ rest e. subst R (sym e) h) (t .line)

@@ -9,7 +9,8 @@
 --   details number o         the lines after the first
 --   answer o                 the text
 --   room o                   so many bytes are enough for it: a number takes at most five, a comma or a line feed one more
---   HasWritten o before after r   what is left and handed back: the text and its length, or nothing where out may be too short or messages are missing
+--   HasWritten o before after r   what is left and handed back: the text and its length, or nothing where out may be too short or messages are
+--                                 missing
 use mathlib.Core.Bool.{true, false}
 use mathlib.Core.Logic.{_⊎_}
 use mathlib.Core.List.{List, [], _∷_, _++_}
@@ -52,7 +53,8 @@ pub record Reply : Type 0 where
   pub messages : List ℕ
 
 abbrev pub reply : ℕ → ℕ → ℕ → ℕ → ℕ → List ℕ → Reply
-reply number updates weight count k messages = record { number = number; updates = updates; weight = weight; count = count; k = k; messages = messages }
+reply number updates weight count k messages =
+    record { number = number; updates = updates; weight = weight; count = count; k = k; messages = messages }
 
 unfoldable pub details : ℕ → Reply → List ℕ
 details zero o =
@@ -69,5 +71,6 @@ abbrev pub room : Reply → ℕ
 room o = 52 + o .count * (9 + 6 * o .k)
 
 pub data HasWritten (o : Reply) (before : List ℕ) : List ℕ → ℕ → Type 0 where
-  written : room o ≤ length before → o .count * o .k ≤ length (o .messages) → HasWritten o before (answer o ++ drop (length (answer o)) before) (length (answer o))
+  written : room o ≤ length before → o .count * o .k ≤ length (o .messages)
+      → HasWritten o before (answer o ++ drop (length (answer o)) before) (length (answer o))
   refused : (length before < room o) ⊎ (length (o .messages) < o .count * o .k) → HasWritten o before before 0

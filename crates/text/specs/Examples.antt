@@ -23,9 +23,15 @@ then : (key value rest : List ℕ) {Value Rest : List ℕ → Type 0} → Value 
 then key value rest v r = record { value = value; rest = rest; is = refl; means = v; follows = r }
 
 three : FewNumbers (bytes "1,2,3") (1 ∷ 2 ∷ 3 ∷ [])
-three = record { numbers = more (digit 49 (omega arith) (omega arith)) (more (digit 50 (omega arith) (omega arith)) (one (digit 51 (omega arith) (omega arith)))); few = omega arith }
+three =
+    record {
+      numbers = more (digit 49 (omega arith) (omega arith)) (more (digit 50 (omega arith) (omega arith))
+          (one (digit 51 (omega arith) (omega arith))));
+      few = omega arith;
+    }
 
-request-example : Readable (bytes "field=7\nk=2\nm=\nl=\nt=2\npoints=1,2,3\nword=1,2,3\n") (record { field = 7; k = 2; m = 1; l = 1; t = 2; points = 1 ∷ 2 ∷ 3 ∷ []; word = 1 ∷ 2 ∷ 3 ∷ [] })
+request-example : Readable (bytes "field=7\nk=2\nm=\nl=\nt=2\npoints=1,2,3\nword=1,2,3\n")
+    (record { field = 7; k = 2; m = 1; l = 1; t = 2; points = 1 ∷ 2 ∷ 3 ∷ []; word = 1 ∷ 2 ∷ 3 ∷ [] })
 request-example =
     then (bytes "field=") (bytes "7") _ (digit 55 (omega arith) (omega arith))
     (then (bytes "k=") (bytes "2") _ (digit 50 (omega arith) (omega arith))

@@ -1,5 +1,6 @@
 -- What the parts of the writer hand back.
---   Put before at text bound after next   the text, at most `bound` bytes long, was put at `at` and nothing else changed; `next` is the place after it
+--   Put before at text bound after next   the text, at most `bound` bytes long, was put at `at` and nothing else changed; `next` is the place
+--                                         after it
 use mathlib.Core.Path.{_≡_}
 use mathlib.Core.List.{List, _++_}
 use Prim.Native.Nat.{ℕ, _+_, _≤_}

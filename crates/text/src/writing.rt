@@ -74,7 +74,8 @@ fn put_numbers(out: &mut [u8], at: usize, ns: &[u8]) -> usize
 
 fn put_message(out: &mut [u8], at: usize, message: &[u8]) -> usize
     requires { ⌜ at + (9 + 6 * length (now message)) ≤ length (now out) ⌝ }
-    ensures { λ next. ⌜ Put (now (out .entry)) at (line (bytes "message=") (commas (now (message .entry)))) (9 + 6 * length (now (message .entry))) (now (out .exit)) next ⌝ }
+    ensures { λ next. ⌜ Put (now (out .entry)) at (line (bytes "message=") (commas (now (message .entry)))) (9 + 6 * length (now (message .entry)))
+        (now (out .exit)) next ⌝ }
 {
     let from = put_bytes(out, at, b"message=");
     let end = put_numbers(out, from, message);

@@ -104,8 +104,11 @@ loop-again c =
     let n = c .before .before .before in
     let l = n .before .loop in
     let a = s n .args in
-    let e : a .p - (a .p - a .c .value) ≡ a .c .value = omega (arith, s n .pre .factor) in
-    (omega arith, simp length-set (l .inv .1), rw e (subtracted-more (s n .pre) (l .i) (n .loop-test .taken) (done (n .before)) (c .reduce .ensures)))
+    let e : a .p - (a .p - a .c .value) ≡ a .c .value = omega (arith, s n .pre .factor) in (
+      omega arith,
+      simp length-set (l .inv .1),
+      rw e (subtracted-more (s n .pre) (l .i) (n .loop-test .taken) (done (n .before)) (c .reduce .ensures)),
+    )
 
 same-length : tie.Need-same-length Inv-loop μ-loop
 same-length c = search needs

@@ -22,7 +22,11 @@ zeroed-more : {i : ℕ} {before after : List ℕ} → Zeroed i before after → 
 zeroed-more {i} {before} {after} z inside =
     record {
       zero = λ q h. zero q h (ℕ-discrete q i);
-      rest = record { long = length-set after i 0 ∙ z .rest .long; same = λ q h. getD-set-other after i q 0 0 (omega arith) ∙ z .rest .same q (omega arith) };
+      rest =
+          record {
+            long = length-set after i 0 ∙ z .rest .long;
+            same = λ q h. getD-set-other after i q 0 0 (omega arith) ∙ z .rest .same q (omega arith);
+          };
     }
   where
     zero : (q : ℕ) → q < i + 1 → Dec (q ≡ i) → getD (set after i 0) q 0 ≡ 0
@@ -42,7 +46,8 @@ loop-less : tie.Need-loop-less Inv-loop μ-loop
 loop-less c = search needs
 
 loop-again : tie.Need-loop-again Inv-loop μ-loop
-loop-again c = let s = c .before .loop in (omega arith, zeroed-more (s .inv .1) (let e = s .inv .1 .rest .long in omega (arith, c .before .before .pre)))
+loop-again c =
+    let s = c .before .loop in (omega arith, zeroed-more (s .inv .1) (let e = s .inv .1 .rest .long in omega (arith, c .before .before .pre)))
 
 same-length : tie.Need-same-length Inv-loop μ-loop
 same-length c = c .before .loop .inv .1 .rest .long

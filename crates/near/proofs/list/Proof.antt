@@ -20,11 +20,14 @@ abbrev start : tie.Else1 → tie.Start
 start c = c .before .before .before .before .before .before .before .before
 
 -- an accepted list
-first : (c : tie.Else1) → let a = start c .args in First (listTable (a .p) (a .points .now) (a .word .now) (a .k) (a .m) (a .l) (a .t) (a .room .now) (a .messages .now)) 0
+first : (c : tie.Else1) → let a =
+    start c .args in First (listTable (a .p) (a .points .now) (a .word .now) (a .k) (a .m) (a .l) (a .t) (a .room .now) (a .messages .now)) 0
 first c = rw (c .if1 .left) at (c .before .refuse-list .ensures)
 
-taken : (c : tie.Else1) → let a = start c .args in Taken (a .p) (a .points .now) (a .word .now) (a .k) (a .m) (a .l) (a .t) (a .room .now) (a .messages .now)
-taken c = let a = start c .args in list-taken (a .p) (a .points .now) (a .word .now) (a .k) (a .m) (a .l) (a .t) (a .room .now) (a .messages .now) (first c)
+taken : (c : tie.Else1) → let a =
+    start c .args in Taken (a .p) (a .points .now) (a .word .now) (a .k) (a .m) (a .l) (a .t) (a .room .now) (a .messages .now)
+taken c = let a = start c .args in
+    list-taken (a .p) (a .points .now) (a .word .now) (a .k) (a .m) (a .l) (a .t) (a .room .now) (a .messages .now) (first c)
 
 fits : (c : tie.Else1) → let a = start c .args in curveBytes (shape (a .p) (length (a .points .now)) (a .k) (a .m) (a .l)) ≤ curveMost
 fits c = curve-small (good-fine (accepted-note (taken c .accepted)))
@@ -48,7 +51,8 @@ interpolate-requires : tie.Need-interpolate-requires
 interpolate-requires c κs = let e = c .before .before in (taken e .start, fits e)
 
 clear-requires : tie.Need-clear-requires
-clear-requires c κs = let i = c .before .before .before .before in let w = taken (i .before .before .before) .working in omega (arith, i .interpolate .ensures .rest .long)
+clear-requires c κs = let i = c .before .before .before .before in let w = taken (i .before .before .before) .working in
+    omega (arith, i .interpolate .ensures .rest .long)
 
 mul-if2 : tie.Need-mul-if2
 mul-if2 c =
@@ -95,7 +99,8 @@ returns-3 c =
     let z = e .before .before .before .before in
     let i = z .before .before .before .before .before in
     let b = i .before .before .before in
-    list-answers (first b) (i .interpolate .ensures) (z .clear .ensures) (e .if2 .left) (search-lists (taken b) (i .interpolate .ensures) (fits b) (e .if2 .left) (r .run .ensures))
+    list-answers (first b) (i .interpolate .ensures) (z .clear .ensures) (e .if2 .left)
+    (search-lists (taken b) (i .interpolate .ensures) (fits b) (e .if2 .left) (r .run .ensures))
 
 pub list-spec : {M : Type 1} → statement M
 list-spec =

@@ -99,7 +99,10 @@ module _ {F : Field} (Φ : FieldLaws F) (N W : ℕ) where
     pub lowest-begins : {u : ℕ} → i ≤ u → Under R u W 0 T → (Zero R T → ⊥) → Begins R i (lowest F N W i T) T
     lowest-begins {u} iu light some =
         let h = least-is W (λ v. some? F N (slice R i v T)) in
-        record { none = lowest-none; some = λ z. some-true F N (slice R i (lowest F N W i T) T) (h .passes (go (decLt (lowest F N W i T) W) (h .inside))) (λ j l. z j) }
+        record {
+          none = lowest-none;
+          some = λ z. some-true F N (slice R i (lowest F N W i T) T) (h .passes (go (decLt (lowest F N W i T) W) (h .inside))) (λ j l. z j);
+        }
       where
         null : W ≤ lowest F N W i T → (j e : ℕ) → Dec (W ≤ e + u * j) → T j e ≡ R .𝟘
         null b j e (yes k) = light j e k (λ _. zero-le)
@@ -114,15 +117,19 @@ module _ {F : Field} (Φ : FieldLaws F) (N W : ℕ) where
   -- the next symbol of a root of Q that begins with the i symbols of g is a root of the lowest slice
   pub root-fits : (g f : Seq R) (i : ℕ) (Q : Curve R) → value (Series R) (addS R (mulS R (mono R (R .𝟙) i) f) g) N Q ≡ zeroS R
       → value R (f 0) N (slice R i (lowest F N W i (shift (Series R) g N Q)) (shift (Series R) g N Q)) ≡ R .𝟘
-  root-fits g f i Q root = root-symbol L N g f i Q (lowest F N W i (shift (Series R) g N Q)) root (lowest-none (below-height R (below-shift (series L) g N Q)) i)
+  root-fits g f i Q root =
+      root-symbol L N g f i Q (lowest F N W i (shift (Series R) g N Q)) root (lowest-none (below-height R (below-shift (series L) g N Q)) i)
 
   -- for a curve of weight below W: the roots of the lowest slice are the symbols that fit
-  module _ {u w s : ℕ} {Q : Curve R} (tall : Height R N Q) (lead : Lead R u w s Q) (inside : w < W) {g : Seq R} (short : Below R (suc u) g) {i : ℕ} (iu : i ≤ u) where
+  module _ {u w s : ℕ} {Q : Curve R} (tall : Height R N Q) (lead : Lead R u w s Q) (inside : w < W) {g : Seq R} (short : Below R (suc u) g) {i : ℕ}
+      (iu : i ≤ u) where
     abbrev T : Curve R
     T = shift (Series R) g N Q
 
     begins : Begins R i (lowest F N W i T) T
-    begins = lowest-begins (below-height R (below-shift (series L) g N Q)) i iu (under-shift L u W N Q g short (under-mono R u w (suc s) W 0 Q (omega arith) (λ q. absurd (omega arith)) (lead .rest))) some
+    begins =
+        lowest-begins (below-height R (below-shift (series L) g N Q)) i iu
+        (under-shift L u W N Q g short (under-mono R u w (suc s) W 0 Q (omega arith) (λ q. absurd (omega arith)) (lead .rest))) some
       where
         some : Zero R T → ⊥
         some z =
@@ -141,12 +148,18 @@ module _ {F : Field} (Φ : FieldLaws F) (N W : ℕ) where
 
     fits-slice : (c : R .Car) → Fits R N g i Q c → value R c N (slice R i (lowest F N W i T) T) ≡ R .𝟘
     fits-slice c h =
-        let b : Begins R i (h .power) T = record { none = λ e j l. sym (prefixed-slice L N g i Q j e) ∙ h .divides j e l; some = λ n. h .highest (λ j. prefixed-slice L N g i Q j (h .power) ∙ n j) } in
-        ap (λ v. value R c N (slice R i v T)) (begins-unique R begins b) ∙ ap (value R c N) (fun-ext (λ j. sym (prefixed-slice L N g i Q j (h .power)))) ∙ h .root
+        let b : Begins R i (h .power) T =
+        record {
+          none = λ e j l. sym (prefixed-slice L N g i Q j e) ∙ h .divides j e l;
+          some = λ n. h .highest (λ j. prefixed-slice L N g i Q j (h .power) ∙ n j);
+        } in
+        ap (λ v. value R c N (slice R i v T)) (begins-unique R begins b)
+        ∙ ap (value R c N) (fun-ext (λ j. sym (prefixed-slice L N g i Q j (h .power)))) ∙ h .root
 
 -- with c chosen, the search goes on from Q as the symbols x leave it to Q as x and c leave it
 module _ {F : Field} (task : Task F) (N : ℕ) where
-  left-snoc : (x y : List ℕ) (c : ℕ) (T : Curve (F .ring)) → curveLeft task N x (y ++ (c ∷ [])) T ≡ chosen (F .ring) N (length (x ++ y)) (task .element c) (curveLeft task N x y T)
+  left-snoc : (x y : List ℕ) (c : ℕ) (T : Curve (F .ring))
+      → curveLeft task N x (y ++ (c ∷ [])) T ≡ chosen (F .ring) N (length (x ++ y)) (task .element c) (curveLeft task N x y T)
   unfolding curveLeft
   left-snoc x [] c T = rw (append-nil x) refl
   left-snoc x (b ∷ y) c T = rw (← append-snoc x b y) (left-snoc (x ++ (b ∷ [])) y c (chosen (F .ring) N (length x) (task .element b) T))
@@ -156,11 +169,17 @@ module _ {F : Field} (task : Task F) (N : ℕ) where
   level-next W left x c Q = ap (level task N W left (x ++ (c ∷ []))) (sym (left-snoc [] x c Q))
 
 module _ {F : Field} (Φ : FieldLaws F) (task : Task F) (num : Numbering F (task .p) (task .element)) (N : ℕ) (Q : Curve (F .ring)) where
-  shift-left : (x y : List ℕ) → curveLeft task N x y (shift (Series (F .ring)) (polynomial task x) N Q) ≡ shift (Series (F .ring)) (polynomial task (x ++ y)) N Q
+  shift-left : (x y : List ℕ)
+      → curveLeft task N x y (shift (Series (F .ring)) (polynomial task x) N Q) ≡ shift (Series (F .ring)) (polynomial task (x ++ y)) N Q
   unfolding curveLeft
   shift-left x [] = rw (append-nil x) refl
   shift-left x (c ∷ y) =
-      rw (chosen-shift (F .ring) N (length x) (task .element c) (shift (Series (F .ring)) (polynomial task x) N Q), shift-shift (series (Φ .ring)) (polynomial task x) (mono (F .ring) (task .element c) (length x)) N Q, ← polynomial-snoc Φ task num x c, ← append-snoc x c y)
+      rw (
+        chosen-shift (F .ring) N (length x) (task .element c) (shift (Series (F .ring)) (polynomial task x) N Q),
+        shift-shift (series (Φ .ring)) (polynomial task x) (mono (F .ring) (task .element c) (length x)) N Q,
+        ← polynomial-snoc Φ task num x c,
+        ← append-snoc x c y,
+      )
       (shift-left (x ++ (c ∷ [])) y)
 
   -- Q as the symbols x leave it is Q at y = g + y, where they form g
@@ -176,9 +195,11 @@ module _ {F : Field} (Φ : FieldLaws F) (task : Task F) (num : Numbering F (task
   -- a symbol fits after the symbols x if and only if it passes the test that the search makes of it
   pub level-fits : {u w s W : ℕ} → Height (F .ring) N Q → Lead (F .ring) u w s Q → w < W → (x : List ℕ) → length x ≤ u → (c : ℕ)
       → Fits (F .ring) N (polynomial task x) (length x) Q (task .element c)
-      ↔ (value (F .ring) (task .element c) N (slice (F .ring) (length x) (lowest F N W (length x) (curveLeft task N [] x Q)) (curveLeft task N [] x Q)) ≡ F .ring .𝟘)
+      ↔ (value (F .ring) (task .element c) N
+      (slice (F .ring) (length x) (lowest F N W (length x) (curveLeft task N [] x Q)) (curveLeft task N [] x Q)) ≡ F .ring .𝟘)
   level-fits {u} {w} {s} {W} tall lead inside x iu c =
-      rw (left-shift tall x) (fits-slice Φ N W tall lead inside short iu (task .element c), slice-fits Φ N W tall lead inside short iu (task .element c))
+      rw (left-shift tall x)
+      (fits-slice Φ N W tall lead inside short iu (task .element c), slice-fits Φ N W tall lead inside short iu (task .element c))
     where
       short : Below (F .ring) (suc u) (polynomial task x)
       short i l = polynomial-beyond task num x i (omega arith)

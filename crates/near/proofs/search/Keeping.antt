@@ -26,7 +26,8 @@ one-no : {A : Type 0} (d : Dec A) → (A → ⊥) → one d ≡ 0
 one-no (yes h) a = absurd (a h)
 one-no (no h) a = refl
 
-module _ {plan : Plan} {points word message : List ℕ} (received : Received plan points word) (spelt : Spelt (plan .p) (plan .k) message) {s : ℕ} (inside : s < length points) where
+module _ {plan : Plan} {points word message : List ℕ} (received : Received plan points word) (spelt : Spelt (plan .p) (plan .k) message) {s : ℕ}
+    (inside : s < length points) where
   abbrev task : Task (symbols (plan .p))
   task = taskFor plan points word
 
@@ -48,21 +49,30 @@ module _ {plan : Plan} {points word message : List ℕ} (received : Received pla
   pub agrees : {v : ℕ} → v ≡ valueAt (plan .p) message (getD points s 0) .byte → v ≡ getD word s 0 → count (suc s) ≡ count s + 1
   agrees {v} e d =
       agreements-suc task (polynomial task message) s
-      ∙ ap (λ (n : ℕ). count s + n) (one-yes (agrees? task (polynomial task message) s) (sym value-is ∙ same-byte (plan .p) (sym e ∙ d ∙ sym received-is)))
+      ∙ ap (λ (n : ℕ). count s + n)
+      (one-yes (agrees? task (polynomial task message) s) (sym value-is ∙ same-byte (plan .p) (sym e ∙ d ∙ sym received-is)))
 
   pub differs : {v : ℕ} → v ≡ valueAt (plan .p) message (getD points s 0) .byte → (v ≡ getD word s 0 → ⊥) → count (suc s) ≡ count s
   differs {v} e d =
       agreements-suc task (polynomial task message) s
-      ∙ ap (λ (n : ℕ). count s + n) (one-no (agrees? task (polynomial task message) s) (λ h. d (e ∙ ap (λ (x : Element (plan .p)). x .byte) (value-is ∙ h) ∙ received-is)))
+      ∙ ap (λ (n : ℕ). count s + n)
+      (one-no (agrees? task (polynomial task message) s) (λ h. d (e ∙ ap (λ (x : Element (plan .p)). x .byte) (value-is ∙ h) ∙ received-is)))
       ∙ add-zero (count s)
 
 -- what is kept of the message
-module _ (plan : Plan) (points word chosen : List ℕ) {a : ℕ} (count : a ≡ agreements (taskFor plan points word) (length points) (polynomial (taskFor plan points word) (take (plan .k) chosen))) where
+module _ (plan : Plan) (points word chosen : List ℕ) {a : ℕ}
+    (count : a ≡ agreements (taskFor plan points word) (length points) (polynomial (taskFor plan points word) (take (plan .k) chosen))) where
   pub kept-none : a < plan .t → kept plan points word chosen ≡ []
-  kept-none h = choose-no (decLe (plan .t) (agreements (taskFor plan points word) (length points) (polynomial (taskFor plan points word) (take (plan .k) chosen)))) (take (plan .k) chosen ∷ []) [] (λ k. omega arith)
+  kept-none h =
+      choose-no (decLe (plan .t)
+      (agreements (taskFor plan points word) (length points) (polynomial (taskFor plan points word) (take (plan .k) chosen))))
+      (take (plan .k) chosen ∷ []) [] (λ k. omega arith)
 
   pub kept-one : plan .t ≤ a → kept plan points word chosen ≡ take (plan .k) chosen ∷ []
-  kept-one h = choose-yes (decLe (plan .t) (agreements (taskFor plan points word) (length points) (polynomial (taskFor plan points word) (take (plan .k) chosen)))) (take (plan .k) chosen ∷ []) [] (omega arith)
+  kept-one h =
+      choose-yes (decLe (plan .t)
+      (agreements (taskFor plan points word) (length points) (polynomial (taskFor plan points word) (take (plan .k) chosen))))
+      (take (plan .k) chosen ∷ []) [] (omega arith)
 
 -- with none, and with one, after `count`
 module _ {plan : Plan} {count : ℕ} {list : List (List ℕ)} {messages : List ℕ} where

@@ -35,10 +35,12 @@ module _ {plan : Plan} {xs : List ℕ} (laid : Laid plan xs) where
   laws = symbols-field (plan .p) (laid .fine .size) .ring
 
   pub curve-byte : {j e : ℕ} → j ≤ plan .l → e ≤ plan .width → curveOf plan xs j e .byte ≡ getD xs (j * slot (planShape plan) + e) 0
-  curve-byte {j} {e} h k = rw (curve-at plan xs h k) (symbol-own (plan .p) (laid .below (j * slot (planShape plan) + e) (slot-inside (planShape plan) h k)))
+  curve-byte {j} {e} h k =
+      rw (curve-at plan xs h k) (symbol-own (plan .p) (laid .below (j * slot (planShape plan) + e) (slot-inside (planShape plan) h k)))
 
   -- a byte of the curve stands among the bytes, at a number that can be counted
-  pub byte-inside : {j e : ℕ} → j ≤ plan .l → e ≤ plan .width → (j * slot (planShape plan) + e < length xs) × (j * slot (planShape plan) + e < curveMost)
+  pub byte-inside : {j e : ℕ} → j ≤ plan .l → e ≤ plan .width
+      → (j * slot (planShape plan) + e < length xs) × (j * slot (planShape plan) + e < curveMost)
   byte-inside {j} {e} h k =
       let a = slot-inside (planShape plan) h k in
       let b = laid .room in
@@ -53,23 +55,28 @@ module _ {plan : Plan} {xs : List ℕ} (laid : Laid plan xs) where
     pub slice-wide : i * j ≤ v → plan .width < v - i * j → sliceOf plan xs i v j .byte ≡ 0
     slice-wide h k = rw (slice-at laws i v (curveOf plan xs) j h, curve-wide plan xs j k) (zero-byte (plan .p))
 
-    pub slice-byte : i * j ≤ v → j ≤ plan .l → v - i * j ≤ plan .width → sliceOf plan xs i v j .byte ≡ getD xs (j * slot (planShape plan) + (v - i * j)) 0
+    pub slice-byte : i * j ≤ v → j ≤ plan .l → v - i * j ≤ plan .width
+        → sliceOf plan xs i v j .byte ≡ getD xs (j * slot (planShape plan) + (v - i * j)) 0
     slice-byte h g k = rw (slice-at laws i v (curveOf plan xs) j h) (curve-byte g k)
 
   -- the power of x that x^i y for y brings to slot j can be counted
   pub lift-small : {i j : ℕ} → i < plan .k → j ≤ plan .l → i * j ≤ fieldMost * heightMost
-  lift-small {i} {j} h k = let a = laid .fine .lift in let b = laid .fine .high in mul-le-mul {n₁ = i} {m₁ = j} {n₂ = fieldMost} {m₂ = heightMost} (omega arith) (omega arith)
+  lift-small {i} {j} h k = let a = laid .fine .lift in let b = laid .fine .high in
+      mul-le-mul {n₁ = i} {m₁ = j} {n₂ = fieldMost} {m₂ = heightMost} (omega arith) (omega arith)
 
 -- bytes that hold a curve within these bounds are that curve
-module _ (plan : Plan) (xs : List ℕ) (Q : Curve (symbols (plan .p) .ring)) (holds : HoldsCurve (planShape plan) xs Q) (tall : Height (symbols (plan .p) .ring) (suc (plan .l)) Q) (light : Under (symbols (plan .p) .ring) (plan .k - 1) (suc (plan .width)) 0 Q) where
+module _ (plan : Plan) (xs : List ℕ) (Q : Curve (symbols (plan .p) .ring)) (holds : HoldsCurve (planShape plan) xs Q)
+    (tall : Height (symbols (plan .p) .ring) (suc (plan .l)) Q) (light : Under (symbols (plan .p) .ring) (plan .k - 1) (suc (plan .width)) 0 Q) where
   pub holds-curve : curveOf plan xs ≡ Q
-  holds-curve = holds-row (planShape plan) xs {i = 0} (omega arith) Q (λ j e h k. ap (λ (q : ℕ). getD xs q 0) (omega arith) ∙ holds j e h k) tall light
+  holds-curve =
+      holds-row (planShape plan) xs {i = 0} (omega arith) Q (λ j e h k. ap (λ (q : ℕ). getD xs q 0) (omega arith) ∙ holds j e h k) tall light
 
   pub holds-laid : Fine (planShape plan) → curveBytes (planShape plan) ≤ length xs → Laid plan xs
   holds-laid fine room =
       record {
         fine = fine;
         room = room;
-        below = λ q h. let r = in-curve (planShape plan) h in rw (r .is, holds (r .power) (r .degree) (r .low) (r .short)) (byte-below (fine .size) (Q (r .power) (r .degree)));
+        below = λ q h. let r = in-curve (planShape plan) h in
+            rw (r .is, holds (r .power) (r .degree) (r .low) (r .short)) (byte-below (fine .size) (Q (r .power) (r .degree)));
         light = rw holds-curve light;
       }

@@ -42,7 +42,9 @@ each-none f = refl
 each-mono : (f : ℕ → List (List ℕ)) (a b : ℕ) → a ≤ b → length (each a f) ≤ length (each b f)
 unfolding each
 each-mono f a zero h = let e : a ≡ 0 = omega arith in rw e (omega arith)
-each-mono f a (suc b) h = ⊎-elim (λ (e : a ≡ suc b). rw e (omega arith)) (λ (k : a < suc b). simp length-append (omega (arith, each-mono f a b (omega arith)))) (eq-or-lt-of-le h)
+each-mono f a (suc b) h =
+    ⊎-elim (λ (e : a ≡ suc b). rw e (omega arith)) (λ (k : a < suc b). simp length-append (omega (arith, each-mono f a b (omega arith))))
+    (eq-or-lt-of-le h)
 
 -- lists of messages of k symbols each
 flat-append : (l r : List (List ℕ)) → flat (l ++ r) ≡ flat l ++ flat r
@@ -56,7 +58,8 @@ blocks-none : {k : ℕ} → Blocks k []
 blocks-none {k} = record { long = sym (zero-mul k) }
 
 blocks-append : {k : ℕ} {l r : List (List ℕ)} → Blocks k l → Blocks k r → Blocks k (l ++ r)
-blocks-append {k} {l} {r} a b = record { long = rw (flat-append l r, length-append (flat l) (flat r), length-append l r, a .long, b .long, add-mul (length l) (length r) k) }
+blocks-append {k} {l} {r} a b =
+    record { long = rw (flat-append l r, length-append (flat l) (flat r), length-append l r, a .long, b .long, add-mul (length l) (length r) k) }
 
 blocks-choose : {k : ℕ} {A : Type 0} (d : Dec A) {l : List (List ℕ)} → Blocks k l → Blocks k (choose d l [])
 blocks-choose (yes h) b = b
@@ -69,16 +72,21 @@ blocks-each (suc n) b = blocks-append (blocks-each n b) (b n)
 
 module _ {F : Field} (task : Task F) (N W : ℕ) where
   level-blocks : (left : ℕ) (x : List ℕ) (T : Curve (F .ring)) → Blocks (length x + left) (level task N W left x T)
-  level-blocks zero x T = rw (level-zero task N W x T) (blocks-choose (decLe (task .t) (agreements task (task .n) (polynomial task x))) {l = x ∷ []} record { long = rw append-nil (omega arith) })
+  level-blocks zero x T =
+      rw (level-zero task N W x T) (blocks-choose (decLe (task .t) (agreements task (task .n) (polynomial task x))) {l = x ∷ []} record
+      { long = rw append-nil (omega arith) })
   level-blocks (suc left) x T =
       rw (level-suc task N W left x T)
-      (blocks-each (task .p) (λ c. blocks-choose (fits? F N W (length x) T (task .element c)) (longer c (level-blocks left (x ++ (c ∷ [])) (choice (F .ring) N (length x) (task .element c) T)))))
+      (blocks-each (task .p)
+      (λ c. blocks-choose (fits? F N W (length x) T (task .element c))
+      (longer c (level-blocks left (x ++ (c ∷ [])) (choice (F .ring) N (length x) (task .element c) T)))))
     where
       longer : (c : ℕ) {l : List (List ℕ)} → Blocks (length (x ++ (c ∷ [])) + left) l → Blocks (length x + suc left) l
       longer c b = let e : length (x ++ (c ∷ [])) + left ≡ length x + suc left = rw (length-append x (c ∷ [])) (omega arith) in rw e at b
 
 -- one list written after another
-wrote-more : {plan : Plan} {count n r : ℕ} {l m : List (List ℕ)} {xs ys zs : List ℕ} → Wrote plan count l xs ys n → Blocks (plan .k) l → Wrote plan n m ys zs r → Wrote plan count (l ++ m) xs zs r
+wrote-more : {plan : Plan} {count n r : ℕ} {l m : List (List ℕ)} {xs ys zs : List ℕ} → Wrote plan count l xs ys n → Blocks (plan .k) l
+    → Wrote plan n m ys zs r → Wrote plan count (l ++ m) xs zs r
 wrote-more {plan} {count} {n} {r} {l} {m} {xs} {ys} {zs} a b c =
     let t = a .total in
     let u = c .total in
@@ -99,10 +107,12 @@ spelt-snoc {p} {i} {c} {x} s h =
 
 -- what comes of trying c after the first i symbols
 abbrev pub tried : (plan : Plan) (points word curve chosen : List ℕ) (i : ℕ) → ℕ → List (List ℕ)
-tried plan points word curve chosen i = branch (taskFor plan points word) (suc (plan .l)) (suc (plan .width)) (plan .k - suc i) (take i chosen) (curveOf plan curve)
+tried plan points word curve chosen i =
+    branch (taskFor plan points word) (suc (plan .l)) (suc (plan .width)) (plan .k - suc i) (take i chosen) (curveOf plan curve)
 
 -- how a level's loop stands: the symbols below c are done
-pub record Going (plan : Plan) (points word curve₀ chosen₀ messages₀ : List ℕ) (i count : ℕ) (curve chosen messages : List ℕ) (found c : ℕ) : Type 0 where
+pub record Going (plan : Plan) (points word curve₀ chosen₀ messages₀ : List ℕ) (i count : ℕ) (curve chosen messages : List ℕ)
+    (found c : ℕ) : Type 0 where
   pub upto : c ≤ plan .p
   pub long : length chosen ≡ length chosen₀
   pub leaves : Leaves plan i count (each c (tried plan points word curve₀ chosen₀ i)) curve₀ curve chosen₀ chosen messages₀ messages found
@@ -122,13 +132,15 @@ module _ {plan : Plan} {points word curve₀ chosen₀ : List ℕ} {i : ℕ} (s 
       let n = s .next in
       let l = s .spelt .long in
       let e : length (take i chosen₀ ++ (c ∷ [])) + (plan .k - suc i) ≡ plan .k = rw (length-append (take i chosen₀) (c ∷ [])) (omega arith) in
-      blocks-choose (fits? (symbols (plan .p)) (suc (plan .l)) (suc (plan .width)) (length (take i chosen₀)) (curveOf plan curve₀) (symbol (plan .p) c))
+      blocks-choose (fits? (symbols (plan .p)) (suc (plan .l)) (suc (plan .width)) (length (take i chosen₀)) (curveOf plan curve₀)
+      (symbol (plan .p) c))
       (rw e at (level-blocks (taskFor plan points word) (suc (plan .l)) (suc (plan .width)) (plan .k - suc i) (take i chosen₀ ++ (c ∷ []))
       (choice (symbols (plan .p) .ring) (suc (plan .l)) (length (take i chosen₀)) (symbol (plan .p) c) (curveOf plan curve₀))))
 
   -- whether c fits, at the power of x that the code found
   module _ {low : ℕ} (least : low ≡ lowest (symbols (plan .p)) (suc (plan .l)) (suc (plan .width)) i (curveOf plan curve₀)) (c : ℕ) where
-    abbrev fits : Dec (RootAt plan curve₀ (length (take i chosen₀)) (lowest (symbols (plan .p)) (suc (plan .l)) (suc (plan .width)) (length (take i chosen₀)) (curveOf plan curve₀)) c)
+    abbrev fits : Dec (RootAt plan curve₀ (length (take i chosen₀))
+        (lowest (symbols (plan .p)) (suc (plan .l)) (suc (plan .width)) (length (take i chosen₀)) (curveOf plan curve₀)) c)
     fits = fits? (symbols (plan .p)) (suc (plan .l)) (suc (plan .width)) (length (take i chosen₀)) (curveOf plan curve₀) (symbol (plan .p) c)
 
     try-fits : RootAt plan curve₀ i low c → try c ≡ with plan points word curve₀ chosen₀ i c
@@ -140,7 +152,8 @@ module _ {plan : Plan} {points word curve₀ chosen₀ : List ℕ} {i : ℕ} (s 
   pub going-none : {messages₀ : List ℕ} {count : ℕ} → Going plan points word curve₀ chosen₀ messages₀ i count curve₀ chosen₀ messages₀ count 0
   going-none = record { upto = omega arith; long = refl; leaves = record { same = refl; front = refl; wrote = wrote-none (each-none try) } }
 
-  module _ {messages₀ curve chosen messages : List ℕ} {count found c : ℕ} (g : Going plan points word curve₀ chosen₀ messages₀ i count curve chosen messages found c) where
+  module _ {messages₀ curve chosen messages : List ℕ} {count found c : ℕ}
+      (g : Going plan points word curve₀ chosen₀ messages₀ i count curve chosen messages found c) where
     pub going-searches : Searches plan points word curve chosen i
     going-searches =
         record {
@@ -158,7 +171,8 @@ module _ {plan : Plan} {points word curve₀ chosen₀ : List ℕ} {i : ℕ} (s 
     going-messages = ap length (g .leaves .wrote .written) ∙ length-sets messages₀ (count * plan .k) (flat (each c try))
 
     -- the test that the code made, on the curve as it is now
-    module _ {low : ℕ} (least : low ≡ lowest (symbols (plan .p)) (suc (plan .l)) (suc (plan .width)) i (curveOf plan curve₀)) {r : Bool} (test : Decided r (RootAt plan curve i low c)) where
+    module _ {low : ℕ} (least : low ≡ lowest (symbols (plan .p)) (suc (plan .l)) (suc (plan .width)) i (curveOf plan curve₀)) {r : Bool}
+        (test : Decided r (RootAt plan curve i low c)) where
       pub fitting : r ≡ true → try c ≡ with plan points word curve₀ chosen₀ i c
       fitting e = try-fits least c (rw (g .leaves .same) at (test .holds e))
 
@@ -166,18 +180,22 @@ module _ {plan : Plan} {points word curve₀ chosen₀ : List ℕ} {i : ℕ} (s 
       failing e = try-fails least c (λ d. test .fails e (rw (g .leaves .same) d))
 
     module _ (h : c < plan .p) where
-      pub opens : try c ≡ with plan points word curve₀ chosen₀ i c → Room plan count (after plan points word curve₀ chosen₀ i) messages₀ → Room plan found (with plan points word curve chosen i c) messages
+      pub opens : try c ≡ with plan points word curve₀ chosen₀ i c → Room plan count (after plan points word curve₀ chosen₀ i) messages₀
+          → Room plan found (with plan points word curve chosen i c) messages
       opens e room =
           let t = g .leaves .wrote .total in
           let m = going-messages in
-          let l : length (each (c + 1) try) ≡ length (each c try) + length (with plan points word curve₀ chosen₀ i c) = rw (each-suc try c, length-append (each c try) (try c), e) in
+          let l : length (each (c + 1) try) ≡ length (each c try) + length (with plan points word curve₀ chosen₀ i c) =
+          rw (each-suc try c, length-append (each c try) (try c), e) in
           let a = each-mono try (c + 1) (plan .p) (omega arith) in
           let r : (count + length (each (plan .p) try)) * plan .k ≤ length messages₀ = rw after-each at (room .enough) in
-          let b : (found + length (with plan points word curve₀ chosen₀ i c)) * plan .k ≤ (count + length (each (plan .p) try)) * plan .k = mul-le-mul-right (plan .k) (omega arith) in
+          let b : (found + length (with plan points word curve₀ chosen₀ i c)) * plan .k ≤ (count + length (each (plan .p) try)) * plan .k =
+          mul-le-mul-right (plan .k) (omega arith) in
           record { enough = rw with-now (omega arith) }
 
       pub grown : {curve′ chosen′ messages′ : List ℕ} {r : ℕ} → try c ≡ with plan points word curve₀ chosen₀ i c → length chosen′ ≡ length chosen
-          → Leaves plan i found (with plan points word curve chosen i c) curve curve′ chosen chosen′ messages messages′ r → Going plan points word curve₀ chosen₀ messages₀ i count curve′ chosen′ messages′ r (c + 1)
+          → Leaves plan i found (with plan points word curve chosen i c) curve curve′ chosen chosen′ messages messages′ r
+          → Going plan points word curve₀ chosen₀ messages₀ i count curve′ chosen′ messages′ r (c + 1)
       grown e n o =
           record {
             upto = omega arith;
@@ -237,15 +255,19 @@ module _ {plan : Plan} {points word curve chosen : List ℕ} {i c : ℕ} (s : Se
           spelt = spelt-one;
         }
 
-    module _ {curve₂ chosen₂ messages messages₂ : List ℕ} {count r : ℕ} (next : Leaves plan (suc i) count (after plan points word curve₁ chosen₁ (suc i)) curve₁ curve₂ chosen₁ chosen₂ messages messages₂ r) {n : ℕ} (less : n ≡ negByte (plan .p) c) where
+    module _ {curve₂ chosen₂ messages messages₂ : List ℕ} {count r : ℕ}
+        (next : Leaves plan (suc i) count (after plan points word curve₁ chosen₁ (suc i)) curve₁ curve₂ chosen₁ chosen₂ messages messages₂ r)
+        {n : ℕ} (less : n ≡ negByte (plan .p) c) where
       pub back-tries : Tries plan i n curve₂
       back-tries = record { laid = rw (next .same) (shift .laid); next = s .next; small = rw less (negByte-below (s .received .size) c) }
 
-      pub back-leaves : {curve₃ : List ℕ} → Shifted plan i n curve₂ curve₃ → Leaves plan i count (with plan points word curve chosen i c) curve curve₃ chosen chosen₂ messages messages₂ r
+      pub back-leaves : {curve₃ : List ℕ} → Shifted plan i n curve₂ curve₃
+          → Leaves plan i count (with plan points word curve chosen i c) curve curve₃ chosen chosen₂ messages messages₂ r
       back-leaves back =
           record {
             same = shifted-back (s .laid) shift (rw (less, next .same) at back);
-            front = sym (take-take i (suc i) chosen₂ (omega arith)) ∙ ap (take i) (next .front) ∙ take-take i (suc i) chosen₁ (omega arith) ∙ front-kept;
+            front = sym (take-take i (suc i) chosen₂ (omega arith)) ∙ ap (take i) (next .front) ∙ take-take i (suc i) chosen₁ (omega arith)
+                ∙ front-kept;
             wrote = rw with-next at (next .wrote);
           }
 
@@ -267,7 +289,8 @@ module _ {plan request : Plan} (is : plan ≡ request) {points word curve messag
       let a : length (foundOn plan points word curve) * plan .k ≤ plan .l * plan .k = mul-le-mul-right (plan .k) (runs .few) in
       record { enough = rw (first-after, zero-add (length (foundOn plan points word curve))) (omega arith) }
 
-  module _ {curve′ chosen chosen′ messages′ : List ℕ} {r : ℕ} (leaves : Leaves plan 0 0 (after plan points word curve [] 0) curve curve′ chosen chosen′ messages messages′ r) where
+  module _ {curve′ chosen chosen′ messages′ : List ℕ} {r : ℕ}
+      (leaves : Leaves plan 0 0 (after plan points word curve [] 0) curve curve′ chosen chosen′ messages messages′ r) where
     abbrev list : List (List ℕ)
     list = foundOn plan points word curve
 
@@ -282,12 +305,15 @@ module _ {plan request : Plan} (is : plan ≡ request) {points word curve messag
 
     made : Ran (plan .k) list messages messages′ r
     made =
-        let e : length (flat list) ≡ length list * plan .k = rw zero-add at (level-blocks (taskFor plan points word) (suc (plan .l)) (suc (plan .width)) (plan .k) [] (curveOf plan curve) .long) in
+        let e : length (flat list) ≡ length list * plan .k =
+        rw zero-add at (level-blocks (taskFor plan points word) (suc (plan .l)) (suc (plan .width)) (plan .k) [] (curveOf plan curve) .long) in
         let a : length list * plan .k ≤ plan .l * plan .k = mul-le-mul-right (plan .k) (runs .few) in
         let h : 0 + length (flat list) ≤ length messages = let m = runs .room in omega arith in
         record {
           count = total;
-          written = rw (← e) (ap (take (length (flat list))) (written ∙ sets-eq (flat list) messages 0 h) ∙ take-at (flat list) _ (length (flat list)) refl);
+          written =
+              rw (← e) (ap (take (length (flat list))) (written ∙ sets-eq (flat list) messages 0 h)
+              ∙ take-at (flat list) _ (length (flat list)) refl);
           rest =
               record {
                 long = ap length written ∙ length-sets messages 0 (flat list);

@@ -32,4 +32,5 @@ unfolding least
 least-at zero test v l none one = omega arith
 least-at (suc W) test zero l none one = rw (one (omega arith), least)
 least-at (suc W) test (suc v) l none one =
-    rw (none 0 (omega arith), least) (ap suc (least-at W (λ i. test (suc i)) v (omega arith) (λ i k. none (suc i) (omega arith)) (λ k. one (omega arith))))
+    rw (none 0 (omega arith), least)
+    (ap suc (least-at W (λ i. test (suc i)) v (omega arith) (λ i k. none (suc i) (omega arith)) (λ k. one (omega arith))))

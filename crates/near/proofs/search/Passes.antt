@@ -89,7 +89,9 @@ module _ {R : Ring} (L : RingLaws R) (N i : ℕ) (c : R .Car) (T : Curve R) wher
   chosen-passes tall = chosen-shift R N i c T ∙ sym (passes-shift (series L) (mono R c i) N T (height-below R tall))
 
   pub chosen-back : Height R N T → chosen R N i (⊖ c) (chosen R N i c T) ≡ T
-  chosen-back tall = rw (chosen-shift R N i c T, chosen-shift R N i (⊖ c) (shift (Series R) (mono R c i) N T), mono-neg L c i) (shift-back (series L) (mono R c i) N T (height-below R tall))
+  chosen-back tall =
+      rw (chosen-shift R N i c T, chosen-shift R N i (⊖ c) (shift (Series R) (mono R c i) N T), mono-neg L c i)
+      (shift-back (series L) (mono R c i) N T (height-below R tall))
 
   -- one pass over the curve's symbols: T_j[d] becomes T_j[d] + c T_(j+1)[d - i], for d from i on
   module _ (a j : ℕ) (l : a ≤ j) where

@@ -98,7 +98,11 @@ module _ {plan : Plan} {i c : ℕ} {xs : List ℕ} (tries : Tries plan i c xs) {
       let w = subtracts .target .within in
       let l = lift-inside in
       rw x (subtracted-symbol p (negByte p c) (q * s + i) (suc q * s) xs (s - i) (e - i) w (omega arith)
-      ∙ rw (symbol-negByte p c, neg-mul L (symbol p c) (symbol p (getD xs (suc q * s + (e - i)) 0)), neg-neg L (productOf p (symbol p c) (symbol p (getD xs (suc q * s + (e - i)) 0)))))
+      ∙ rw (
+        symbol-negByte p c,
+        neg-mul L (symbol p c) (symbol p (getD xs (suc q * s + (e - i)) 0)),
+        neg-neg L (productOf p (symbol p c) (symbol p (getD xs (suc q * s + (e - i)) 0))),
+      ))
 
   -- in terms of the curve
   nothing : {x y : Element p} → x ≡ symbol p 0 → y ≡ symbol p 0 → sumOf p x (productOf p (symbol p c) y) ≡ symbol p 0
@@ -114,7 +118,8 @@ module _ {plan : Plan} {i c : ℕ} {xs : List ℕ} (tries : Tries plan i c xs) {
       go : Dec (e ≤ plan .width) → curveOf plan ys q e ≡ sumOf p (curveOf plan xs q e) (productOf p (symbol p c) (curveOf plan xs (suc q) (e - i)))
       go (yes k) =
           curve-at plan ys (omega arith) k
-          ∙ rw (curve-at plan xs {j = q} {e = e} (omega arith) k, curve-at plan xs {j = suc q} {e = e - i} (omega arith) (omega arith)) (byte-taken h k)
+          ∙ rw (curve-at plan xs {j = q} {e = e} (omega arith) k, curve-at plan xs {j = suc q} {e = e - i} (omega arith) (omega arith))
+          (byte-taken h k)
       go (no k) = curve-wide plan ys q (omega arith) ∙ sym (nothing (curve-wide plan xs q (omega arith)) (heavy q e h (omega arith)))
 
   slot-other : (a e : ℕ) → (a < q) ⊎ ((suc q ≤ a) ⊎ (e < i)) → curveOf plan ys a e ≡ curveOf plan xs a e
@@ -131,7 +136,8 @@ module _ {plan : Plan} {i c : ℕ} {xs : List ℕ} (tries : Tries plan i c xs) {
       go : Dec (q * s + i ≤ r) → Dec (r < q * s + i + (s - i)) → getD ys r 0 < p
       go (yes a) (yes b) =
           let x : r ≡ q * s + i + (r - (q * s + i)) = omega arith in
-          rw x (subtracted-below p (negByte p c) (q * s + i) (suc q * s) xs (s - i) (r - (q * s + i)) (subtracts .target .within) (omega arith) (laid .fine .size))
+          rw x (subtracted-below p (negByte p c) (q * s + i) (suc q * s) xs (s - i) (r - (q * s + i)) (subtracts .target .within) (omega arith)
+          (laid .fine .size))
       go (yes a) (no b) = rw (subtracted-outside p (negByte p c) (q * s + i) (suc q * s) xs (s - i) r (inr (omega arith))) (laid .below r h)
       go (no a) b = rw (subtracted-outside p (negByte p c) (q * s + i) (suc q * s) xs (s - i) r (inl (omega arith))) (laid .below r h)
 
@@ -165,7 +171,8 @@ pub raised-none : {plan : Plan} {i c j : ℕ} {xs : List ℕ} → Laid plan xs �
 raised-none {plan} {xs = xs} laid =
     record { laid = laid; slots = λ a e h k g. absurd (omega arith); others = λ a e o. refl; rest = untouched-none (curveBytes (planShape plan)) xs }
 
-module _ {plan : Plan} {i c j q : ℕ} {xs ys zs : List ℕ} (done : Lifted plan i c j q xs ys) (from : j ≤ q) (one : Lifted plan i c q (suc q) ys zs) where
+module _ {plan : Plan} {i c j q : ℕ} {xs ys zs : List ℕ} (done : Lifted plan i c j q xs ys) (from : j ≤ q)
+    (one : Lifted plan i c q (suc q) ys zs) where
   abbrev took : (zs : List ℕ) → ℕ → ℕ → Element (plan .p)
   took zs a e = sumOf (plan .p) (curveOf plan zs a e) (productOf (plan .p) (symbol (plan .p) c) (curveOf plan zs (suc a) (e - i)))
 
@@ -178,7 +185,8 @@ module _ {plan : Plan} {i c j q : ℕ} {xs ys zs : List ℕ} (done : Lifted plan
           go : Dec (a < q) → curveOf plan zs a e ≡ took xs a e
           go (yes l) = one .others a e (inl l) ∙ done .slots a e h l g
           go (no l) =
-              one .slots a e (omega arith) k g ∙ rw (done .others a e (inr (inl (omega arith))), done .others (suc a) (e - i) (inr (inl (omega arith))))
+              one .slots a e (omega arith) k g
+              ∙ rw (done .others a e (inr (inl (omega arith))), done .others (suc a) (e - i) (inr (inl (omega arith))))
 
       others : (a e : ℕ) → (a < j) ⊎ ((suc q ≤ a) ⊎ (e < i)) → curveOf plan zs a e ≡ curveOf plan xs a e
       others a e (inl o) = one .others a e (inl (omega arith)) ∙ done .others a e (inl o)
@@ -204,8 +212,11 @@ module _ {plan : Plan} {xs : List ℕ} (laid : Laid plan xs) (i c : ℕ) where
     where
       go : (a e : ℕ) → Dec (a < j) → Dec (e < i) → Dec (a < plan .l) → curveOf plan ys a e ≡ pass (Series F) h j T a e
       go a e (yes l) m n = r .others a e (inl l) ∙ sym (ap (λ (f : Seq F). f e) (pass-before (series (laws laid)) h j T a l))
-      go a e (no l) (yes m) n = r .others a e (inr (inr m)) ∙ sym (pass-symbol-low (laws laid) (suc (plan .l)) i (symbol (plan .p) c) T j a (omega arith) e m)
-      go a e (no l) (no m) (yes n) = r .slots a e (omega arith) n (omega arith) ∙ sym (pass-symbol (laws laid) (suc (plan .l)) i (symbol (plan .p) c) T j a (omega arith) e (omega arith))
+      go a e (no l) (yes m) n =
+          r .others a e (inr (inr m)) ∙ sym (pass-symbol-low (laws laid) (suc (plan .l)) i (symbol (plan .p) c) T j a (omega arith) e m)
+      go a e (no l) (no m) (yes n) =
+          r .slots a e (omega arith) n (omega arith)
+          ∙ sym (pass-symbol (laws laid) (suc (plan .l)) i (symbol (plan .p) c) T j a (omega arith) e (omega arith))
       go a e (no l) (no m) (no n) =
           r .others a e (inr (inl (omega arith)))
           ∙ sym (pass-symbol (laws laid) (suc (plan .l)) i (symbol (plan .p) c) T j a (omega arith) e (omega arith)
@@ -224,9 +235,11 @@ unfolding passes
 passes-suc R h a f = refl
 
 pub shifting-none : {plan : Plan} {i c : ℕ} {xs : List ℕ} → Laid plan xs → Shifting plan i c (plan .l) xs xs
-shifting-none {plan} {xs = xs} laid = record { inside = omega arith; laid = laid; left = refl; rest = untouched-none (curveBytes (planShape plan)) xs }
+shifting-none {plan} {xs = xs} laid =
+    record { inside = omega arith; laid = laid; left = refl; rest = untouched-none (curveBytes (planShape plan)) xs }
 
-pub shifting-more : {plan : Plan} {i c j : ℕ} {xs ys zs : List ℕ} → Shifting plan i c j xs ys → 0 < j → Lifted plan i c (j - 1) (plan .l) ys zs → Shifting plan i c (j - 1) xs zs
+pub shifting-more : {plan : Plan} {i c j : ℕ} {xs ys zs : List ℕ} → Shifting plan i c j xs ys → 0 < j → Lifted plan i c (j - 1) (plan .l) ys zs
+    → Shifting plan i c (j - 1) xs zs
 shifting-more {plan} {i} {c} {j} {xs} {ys} {zs} s some r =
     let R : Ring = symbols (plan .p) .ring in
     let e : j ≡ suc (j - 1) = omega arith in
@@ -250,22 +263,27 @@ shifted {plan} {i} {c} {xs} laid s =
       laid = s .laid;
       curve =
           s .left
-          ∙ ap (passes (Series R) (mono R (symbol (plan .p) c) i) (plan .l)) (sym (pass-top (series (laws laid)) (mono R (symbol (plan .p) c) i) (plan .l) (curveOf plan xs) (height-below R (tall laid i c))))
+          ∙ ap (passes (Series R) (mono R (symbol (plan .p) c) i) (plan .l))
+          (sym (pass-top (series (laws laid)) (mono R (symbol (plan .p) c) i) (plan .l) (curveOf plan xs) (height-below R (tall laid i c))))
           ∙ sym (chosen-passes (laws laid) (suc (plan .l)) i (symbol (plan .p) c) (curveOf plan xs) (tall laid i c));
       rest = s .rest;
     }
 
 -- two curves that are the same lie in the same bytes
-pub laid-same : {plan : Plan} {xs ys : List ℕ} → Laid plan xs → Laid plan ys → curveOf plan ys ≡ curveOf plan xs → Untouched (curveBytes (planShape plan)) xs ys → ys ≡ xs
+pub laid-same : {plan : Plan} {xs ys : List ℕ} → Laid plan xs → Laid plan ys → curveOf plan ys ≡ curveOf plan xs
+    → Untouched (curveBytes (planShape plan)) xs ys → ys ≡ xs
 laid-same {plan} {xs} {ys} a b e u =
     untouched-unique (curveBytes (planShape plan)) u (untouched-none (curveBytes (planShape plan)) xs)
     (λ q l.
     let r = in-curve (planShape plan) l in
-    rw (r .is) (sym (curve-byte b (r .low) (r .short)) ∙ ap (λ (T : Curve (symbols (plan .p) .ring)). T (r .power) (r .degree) .byte) e ∙ curve-byte a (r .low) (r .short)))
+    rw (r .is) (sym (curve-byte b (r .low) (r .short)) ∙ ap (λ (T : Curve (symbols (plan .p) .ring)). T (r .power) (r .degree) .byte) e
+    ∙ curve-byte a (r .low) (r .short)))
 
-pub shifted-back : {plan : Plan} {i c : ℕ} {xs ys zs : List ℕ} → Laid plan xs → Shifted plan i c xs ys → Shifted plan i (negByte (plan .p) c) ys zs → zs ≡ xs
+pub shifted-back : {plan : Plan} {i c : ℕ} {xs ys zs : List ℕ} → Laid plan xs → Shifted plan i c xs ys → Shifted plan i (negByte (plan .p) c) ys zs
+    → zs ≡ xs
 shifted-back {plan} {i} {c} {xs} {ys} {zs} laid there back =
     laid-same laid (back .laid)
     (back .curve
-    ∙ rw (there .curve, symbol-negByte (plan .p) c) (chosen-back (laws laid) (suc (plan .l)) i (symbol (plan .p) c) (curveOf plan xs) (tall laid i c)))
+    ∙ rw (there .curve, symbol-negByte (plan .p) c)
+    (chosen-back (laws laid) (suc (plan .l)) i (symbol (plan .p) c) (curveOf plan xs) (tall laid i c)))
     (untouched-then (there .rest) (back .rest))

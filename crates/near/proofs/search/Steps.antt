@@ -30,12 +30,14 @@ module _ {R : Ring} (L : RingLaws R) where
   unfolding slice
   slice-beyond i v T j h = choose-no (decLe (i * j) v) (T j (v - i * j)) 𝟘 (λ k. omega arith)
 
-  prefixed-at : (N : ℕ) (g : Seq R) (i : ℕ) (Q : Curve R) (j : ℕ) → curveAt R N (prefixed R g i) Q j ≡ pow (Series R) (mono R 𝟙 i) j ⊠ shift (Series R) g N Q j
+  prefixed-at : (N : ℕ) (g : Seq R) (i : ℕ) (Q : Curve R) (j : ℕ)
+      → curveAt R N (prefixed R g i) Q j ≡ pow (Series R) (mono R 𝟙 i) j ⊠ shift (Series R) g N Q j
   unfolding curveAt
   prefixed-at N g i Q j = value-line (series L) g (mono R 𝟙 i) N Q j
 
   -- Q at y = g + x^i y, by the slices of T = Q at y = g + y
-  pub prefixed-slice : (N : ℕ) (g : Seq R) (i : ℕ) (Q : Curve R) (j v : ℕ) → curveAt R N (prefixed R g i) Q j v ≡ slice R i v (shift (Series R) g N Q) j
+  pub prefixed-slice : (N : ℕ) (g : Seq R) (i : ℕ) (Q : Curve R) (j v : ℕ)
+      → curveAt R N (prefixed R g i) Q j v ≡ slice R i v (shift (Series R) g N Q) j
   prefixed-slice N g i Q j v = ap (λ (f : Seq R). f v) (prefixed-at N g i Q j) ∙ rw (mono-pow L i j) (go (decLe (i * j) v))
     where
       T : Curve R
@@ -48,7 +50,8 @@ module _ {R : Ring} (L : RingLaws R) where
       go (no k) = mono-mul-low L 𝟙 (i * j) v (T j) (omega arith) ∙ sym (slice-beyond i v T j (omega arith))
 
   -- Q at y = g + x^i y, then at y = f, is Q at y = g + x^i f
-  prefixed-value : (N : ℕ) (g f : Seq R) (i : ℕ) (Q : Curve R) → value (Series R) f N (curveAt R N (prefixed R g i) Q) ≡ value (Series R) (mono R 𝟙 i ⊠ f ⊞ g) N Q
+  prefixed-value : (N : ℕ) (g f : Seq R) (i : ℕ) (Q : Curve R)
+      → value (Series R) f N (curveAt R N (prefixed R g i) Q) ≡ value (Series R) (mono R 𝟙 i ⊠ f ⊞ g) N Q
   prefixed-value N g f i Q =
       ap (value (Series R) f N) (fun-ext (prefixed-at N g i Q))
       ∙ value-powers (series L) (mono R 𝟙 i) f N (shift (Series R) g N Q)

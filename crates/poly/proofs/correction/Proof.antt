@@ -30,10 +30,15 @@ part-value-at-end c = search needs
 value-at-requires-2 : tie.Need-value-at-requires-2
 value-at-requires-2 c κs =
     let s = c .before .before .before .before in
-    record { size = s .pre .size; point = s .pre .point; below = rw (take-rest 32 (s .args .work .now)) (below-drop 32 (s .args .work .now) (s .pre .below)) }
+    record {
+      size = s .pre .size;
+      point = s .pre .point;
+      below = rw (take-rest 32 (s .args .work .now)) (below-drop 32 (s .args .work .now) (s .pre .below));
+    }
 
 -- the value of e, as the contract has it
-value-e : (c : tie.After-value-at2) → let s = c .before .before .before .before .before .args in c .value-at2 .result ≡ valueAt (s .p) (drop 32 (s .work .now)) (s .a) .byte
+value-e : (c : tie.After-value-at2) → let s =
+    c .before .before .before .before .before .args in c .value-at2 .result ≡ valueAt (s .p) (drop 32 (s .work .now)) (s .a) .byte
 value-e c =
     let s = c .before .before .before .before .before .args in
     c .value-at2 .ensures ∙ rw (take-rest 32 (s .work .now))
@@ -41,20 +46,38 @@ value-e c =
 difference-requires : tie.Need-difference-requires
 difference-requires c κs =
     let s = c .before .before .before .before .before in
-    record { size = s .pre .size; left = rw (c .before .before .value-at .ensures) (byte-below (s .pre .size) (valueAt (s .args .p) (take 32 (s .args .work .now)) (s .args .a))); right = s .pre .wanted }
+    record {
+      size = s .pre .size;
+      left = rw (c .before .before .value-at .ensures) (byte-below (s .pre .size)
+          (valueAt (s .args .p) (take 32 (s .args .work .now)) (s .args .a)));
+      right = s .pre .wanted;
+    }
 
 inverse-requires : tie.Need-inverse-requires
 inverse-requires c κs =
     let s = c .before .before .before .before .before .before in
-    record { size = s .pre .size; below = rw (value-e (c .before)) (byte-below (s .pre .size) (valueAt (s .args .p) (drop 32 (s .args .work .now)) (s .args .a))) }
+    record {
+      size = s .pre .size;
+      below = rw (value-e (c .before)) (byte-below (s .pre .size) (valueAt (s .args .p) (drop 32 (s .args .work .now)) (s .args .a)));
+    }
 
 product-requires : tie.Need-product-requires
 product-requires c κs =
     let s = c .before .before .before .before .before .before .before in
-    record { size = s .pre .size; left = rw (c .before .difference .ensures) (minusBytes-below (s .pre .size) _ _); right = rw (c .inverse .ensures) (invByte-below (s .pre .size) _) }
+    record {
+      size = s .pre .size;
+      left = rw (c .before .difference .ensures) (minusBytes-below (s .pre .size) _ _);
+      right = rw (c .inverse .ensures) (invByte-below (s .pre .size) _);
+    }
 
 returns : tie.Need-returns
-returns c = c .product .ensures ∙ rw (c .before .before .difference .ensures, c .before .inverse .ensures, c .before .before .before .before .before .value-at .ensures, value-e (c .before .before .before))
+returns c =
+    c .product .ensures ∙ rw (
+      c .before .before .difference .ensures,
+      c .before .inverse .ensures,
+      c .before .before .before .before .before .value-at .ensures,
+      value-e (c .before .before .before),
+    )
 
 pub correction-spec : {M : Type 1} → statement M
 correction-spec =

@@ -31,8 +31,11 @@ returns c =
     }
 
 loop-holds : tie.Need-loop-holds Inv-loop μ-loop
-loop-holds c =
-    (search needs, accepted (c .before .refuse-encode .ensures) (c .if1 .left), record { long = refl; word = λ q h. absurd (omega arith); rest = λ q h. refl })
+loop-holds c = (
+  search needs,
+  accepted (c .before .refuse-encode .ensures) (c .if1 .left),
+  record { long = refl; word = λ q h. absurd (omega arith); rest = λ q h. refl },
+)
 
 shared-slice-read-value-at : tie.Need-shared-slice-read-value-at Inv-loop μ-loop
 shared-slice-read-value-at c = search needs

@@ -81,7 +81,8 @@ loop-again c =
     let l = i .before in (
       omega (arith, i .loop-test .taken),
       interpolated-next (l .before .before .before .pre) (l .loop .inv .1) (i .loop-test .taken)
-          (rw (m .before .before .before .negative .ensures, u .subtract .ensures, u .before .before .correction .ensures) at (m .multiply .ensures)),
+          (rw (m .before .before .before .negative .ensures, u .subtract .ensures, u .before .before .correction .ensures) at
+          (m .multiply .ensures)),
     )
 
 returns : tie.Need-returns Inv-loop μ-loop

@@ -22,7 +22,8 @@ returns : tie.Need-returns
 returns c =
     let s = c .before .before .before .before in
     c .convolve .ensures
-    ∙ ap (λ (x : Element (s .args .p)). x .byte) (product-convolution (s .pre .size) (s .args .f .now) (s .args .xs .now) (s .args .at) (s .args .e) (search needs))
+    ∙ ap (λ (x : Element (s .args .p)). x .byte)
+    (product-convolution (s .pre .size) (s .args .f .now) (s .args .xs .now) (s .args .at) (s .args .e) (search needs))
 
 pub product-at-spec : {M : Type 1} → statement M
 product-at-spec = tie.close (tie.spec add-convolve add-least least-requires convolve-requires returns)

@@ -10,7 +10,8 @@ use Rattle.poly.proofs.value_at.Statement.{statement}
 use Rattle.poly.proofs.value_at.Tie as tie
 
 abbrev Inv-loop : tie.InvT-loop
-Inv-loop coefficients a p x sum₀ i₀ sum i = (i ≤ length coefficients) × (sum .value ≡ horner p a (length coefficients) (symbolsOf p coefficients) i .byte)
+Inv-loop coefficients a p x sum₀ i₀ sum i =
+    (i ≤ length coefficients) × (sum .value ≡ horner p a (length coefficients) (symbolsOf p coefficients) i .byte)
 
 abbrev μ-loop : tie.MeasureT-loop
 μ-loop coefficients a p x sum₀ i₀ sum i = i
@@ -30,8 +31,13 @@ plus-product-requires : tie.Need-plus-product-requires Inv-loop μ-loop
 plus-product-requires c κs =
     let l = c .before .before in
     let s = l .before .before in
-    let x : l .loop .sum .value < s .args .p = rw (l .loop .inv .1) (byte-below (s .pre .size) (horner (s .args .p) (s .args .a) (length (s .args .coefficients .now)) (symbolsOf (s .args .p) (s .args .coefficients .now)) (l .loop .i))) in
-    (record { size = s .pre .size; below = s .pre .below (l .loop .i - 1) (search needs) }, record { size = s .pre .size; left = s .pre .point; right = x })
+    let x : l .loop .sum .value < s .args .p =
+    rw (l .loop .inv .1) (byte-below (s .pre .size)
+    (horner (s .args .p) (s .args .a) (length (s .args .coefficients .now)) (symbolsOf (s .args .p) (s .args .coefficients .now))
+    (l .loop .i))) in (
+      record { size = s .pre .size; below = s .pre .below (l .loop .i - 1) (search needs) },
+      record { size = s .pre .size; left = s .pre .point; right = x },
+    )
 
 loop-less : tie.Need-loop-less Inv-loop μ-loop
 loop-less c = search needs
@@ -39,8 +45,11 @@ loop-less c = search needs
 loop-again : tie.Need-loop-again Inv-loop μ-loop
 loop-again c =
     let l = c .before .before .before in
-    let s = l .before .before .args in
-    (search needs, c .plus-product .ensures ∙ rw (l .loop .inv .1) (horner-more (s .p) (s .a) (length (s .coefficients .now)) (symbolsOf (s .p) (s .coefficients .now)) _ (l .loop .i) (search needs) (search needs) refl))
+    let s = l .before .before .args in (
+      search needs,
+      c .plus-product .ensures ∙ rw (l .loop .inv .1) (horner-more (s .p) (s .a) (length (s .coefficients .now))
+          (symbolsOf (s .p) (s .coefficients .now)) _ (l .loop .i) (search needs) (search needs) refl),
+    )
 
 returns : tie.Need-returns Inv-loop μ-loop
 returns c =

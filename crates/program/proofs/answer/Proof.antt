@@ -21,7 +21,12 @@ same-length : tie.Need-same-length
 same-length c = search needs
 
 returns : tie.Need-returns
-returns c = (unread-answer (c .before .before .before .before .before .before .before .read .ensures) (not-true _ (c .before .before .before .before .before .if1 .taken)) (c .before .before .write .ensures), write-within (c .before .before .write .ensures) (search needs))
+returns c = (
+  unread-answer (c .before .before .before .before .before .before .before .read .ensures) (not-true _
+      (c .before .before .before .before .before .if1 .taken)) (c .before .before .write .ensures),
+  write-within (c .before .before .write .ensures)
+      (search needs),
+)
 
 cast-n : tie.Need-cast-n
 cast-n c = search needs
@@ -39,7 +44,8 @@ array-share-prefix-word : tie.Need-array-share-prefix-word
 array-share-prefix-word c = read-inside (c .before .before .before .before .before .before .before .read .ensures) .1
 
 slice-aggregate-list-2 : tie.Need-slice-aggregate-list-2
-slice-aggregate-list-2 c = sym (length-take-le _ _ (read-inside (c .before .before .before .before .before .before .before .before .read .ensures) .1))
+slice-aggregate-list-2 c =
+    sym (length-take-le _ _ (read-inside (c .before .before .before .before .before .before .before .before .read .ensures) .1))
 
 slice-aggregate-list-3 : tie.Need-slice-aggregate-list-3
 slice-aggregate-list-3 c = search needs
@@ -60,7 +66,14 @@ same-length-2 : tie.Need-same-length-2
 same-length-2 c = search needs
 
 returns-2 : tie.Need-returns-2
-returns-2 c = (listed-answer _ _ _ (c .before .before .before .before .before .before .before .before .before .before .before .before .before .before .before .before .before .before .read .ensures) (not-false _ (c .before .before .before .before .before .before .before .before .before .before .before .before .before .before .before .before .if1 .left)) (c .before .before .before .before .before .before .before .list .ensures) (c .before .before .write2 .ensures), write-within (c .before .before .write2 .ensures) (search needs))
+returns-2 c = (
+  listed-answer _ _ _ (c .before .before .before .before .before .before .before .before .before .before .before .before .before .before .before
+      .before .before .before .read .ensures)
+      (not-false _ (c .before .before .before .before .before .before .before .before .before .before .before .before .before .before .before .before
+      .if1 .left)) (c .before .before .before .before .before .before .before .list .ensures) (c .before .before .write2 .ensures),
+  write-within
+      (c .before .before .write2 .ensures) (search needs),
+)
 
 pub answer-spec : {M : Type 1} → statement M
 answer-spec =

@@ -133,7 +133,8 @@ module _ (S : Shape) (m : ℕ) (h e : List ℕ) {i : ℕ} {xs ys zs : List ℕ} 
           (raised-holds a (toFill S m h e (i - 1)) (f .done (i - 1) (omega arith) (omega arith))
           (λ d u. filled-bare inside f d (let w = slot-inside S {j = zero} {e = d} (omega arith) u in omega arith)))
 
-pub filled-all : {S : Shape} {rows : ℕ → Curve (symbols (S .p) .ring)} {i : ℕ} {xs ys : List ℕ} → S .l < i → RowsFilled S rows i xs ys → Holds S ys rows
+pub filled-all : {S : Shape} {rows : ℕ → Curve (symbols (S .p) .ring)} {i : ℕ} {xs ys : List ℕ} → S .l < i → RowsFilled S rows i xs ys
+    → Holds S ys rows
 filled-all k f q j d g o u = f .done q (omega arith) g j d o u
 
 -- h and e as parts of the work

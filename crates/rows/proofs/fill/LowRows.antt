@@ -79,7 +79,12 @@ module _ {S : Shape} {i m : ℕ} {h e xs : List ℕ} (a : FillsLow S i m h e xs)
   one-factors =
       let w = slot-fits S in
       let v = length-set xs base 1 in
-      record { size = a .fine .size; factor = a .below-e; short = omega (arith, a .fine .wide); region = record { within = omega (arith, row-inside); below = below } }
+      record {
+        size = a .fine .size;
+        factor = a .below-e;
+        short = omega (arith, a .fine .wide);
+        region = record { within = omega (arith, row-inside); below = below };
+      }
     where
       below : (q : ℕ) → q < slot S → getD one (base + q) 0 < p
       below zero k = rw (add-zero, one-first) (omega (arith, a .fine .size))
@@ -92,7 +97,12 @@ module _ {S : Shape} {i m : ℕ} {h e xs : List ℕ} (a : FillsLow S i m h e xs)
       is : (j d : ℕ) → j ≤ S .l → d ≤ S .width → getD zs (place S i j d) 0 ≡ row n 0 j d .byte
       is zero d g k =
           let z : place S i zero d ≡ base + d = omega arith in
-          rw (z, b .power d (omega arith), lowRow-zero R (symbolsOf p e) (symbolsOf p h) n, constS-zero (Series R) (pow (Series R) (symbolsOf p e) n))
+          rw (
+            z,
+            b .power d (omega arith),
+            lowRow-zero R (symbolsOf p e) (symbolsOf p h) n,
+            constS-zero (Series R) (pow (Series R) (symbolsOf p e) n),
+          )
           (ap (λ (x : Element p). x .byte)
           (product-low R (pow (Series R) (symbolsOf p e) n) (from p one base) (oneS R) d (λ q o. one-is q (omega arith))
           ∙ ap (λ (f : Seq R). f d) (mul-one (series L) (pow (Series R) (symbolsOf p e) n))))
@@ -133,11 +143,13 @@ module _ {S : Shape} {i m : ℕ} {h e xs : List ℕ} (a : FillsLow S i m h e xs)
           is = λ j d g f. rw (add-one q, lowRow-suc R (symbolsOf p e) (symbolsOf p h) n q) (is j d g f (decLt j (q + 2)));
         }
       where
-        is : (j d : ℕ) → j ≤ S .l → d ≤ S .width → Dec (j < q + 2) → getD zs (place S i j d) 0 ≡ mulS (Series R) (lin (Series R) (symbolsOf p h)) (row n q) j d .byte
+        is : (j d : ℕ) → j ≤ S .l → d ≤ S .width → Dec (j < q + 2)
+            → getD zs (place S i j d) 0 ≡ mulS (Series R) (lin (Series R) (symbolsOf p h)) (row n q) j d .byte
         is j d g f (yes o) =
             r .is j d o (omega arith)
             ∙ ap (λ (x : Element p). x .byte)
-            (raised-low L (symbolsOf p h) (slotsAt p base (slot S) ys) (row n q) j d (λ t v u z. rw (b .is t v (omega arith) (omega arith)) (symbol-byte p (row n q t v))))
+            (raised-low L (symbolsOf p h) (slotsAt p base (slot S) ys) (row n q) j d
+            (λ t v u z. rw (b .is t v (omega arith) (omega arith)) (symbol-byte p (row n q t v))))
         is j d g f (no o) =
             let w = mul-le-mul-right {m = q + 2} {n = j} (slot S) (omega arith) in
             r .kept .same (place S i j d) (inr (omega arith))

@@ -16,7 +16,8 @@ use Rattle.field.proofs.RingLaws.{mul-assoc, one-mul, neg-mul, neg-neg}
 use Rattle.field.proofs.Sums.{pow-zero, pow-suc}
 use Rattle.field.proofs.SymbolLaws.{symbols-field, symbol-byte, byte-is}
 use Rattle.field.proofs.OperationLaws.{symbol-negByte, negByte-below}
-use Rattle.field.proofs.KernelLaws.{length-subtracted, subtracted-outside, subtracted-below, subtracted-symbol, length-scaled, scaled-outside, scaled-below, scaled-symbol}
+use Rattle.field.proofs.KernelLaws.{length-subtracted, subtracted-outside, subtracted-below, subtracted-symbol, length-scaled, scaled-outside}
+use Rattle.field.proofs.KernelLaws.{scaled-below, scaled-symbol}
 use Rattle.poly.specs.Polynomials.{Seq, Series, mulS}
 use Rattle.poly.specs.Buffers.{from, Factors, productFrom, Kept, Product}
 use Rattle.poly.proofs.Series.{series}
@@ -60,7 +61,11 @@ module _ {p : ℕ} (l : Listed p) where
           more : (e : ℕ) → e < len → productFrom p f ys at e ≡ power (i + 1) e
           more e h =
               product-low R (symbolsOf p f) (from p ys at) (power i) e (λ k g. rw (b .power k (omega arith)) (symbol-byte p (power i k)))
-              ∙ rw (add-one i, pow-suc (Series R) (symbolsOf p f) i, mul-assoc (series L) (symbolsOf p f) (pow (Series R) (symbolsOf p f) i) (from p xs at))
+              ∙ rw (
+                add-one i,
+                pow-suc (Series R) (symbolsOf p f) i,
+                mul-assoc (series L) (symbolsOf p f) (pow (Series R) (symbolsOf p f) i) (from p xs at),
+              )
 
   -- a slot of (y - h) Q: times h, times -1, and the slot below added as it is taken off -1 times
   module _ {c : ℕ} (minus : c ≡ negByte p 1) where
@@ -86,13 +91,15 @@ module _ {p : ℕ} (l : Listed p) where
           }
 
       -- the slot below is still as it was
-      pub slot-subtracts : {from : ℕ} {zs : List ℕ} → from + len ≤ at → Region p from len xs → Negated p f at len xs zs → Subtracts p c at from len zs
+      pub slot-subtracts : {from : ℕ} {zs : List ℕ} → from + len ≤ at → Region p from len xs → Negated p f at len xs zs
+          → Subtracts p c at from len zs
       slot-subtracts {from} h r b =
           record {
             size = l;
             factor = below;
             target = region-symbols (λ i. negativeOf p (productFrom p f xs at i)) l (a .region) (b .kept) (b .is);
-            source = record { within = rw (b .kept .long) (r .within); below = λ i k. rw (b .kept .same (from + i) (inl (omega arith))) (r .below i k) };
+            source =
+                record { within = rw (b .kept .long) (r .within); below = λ i k. rw (b .kept .same (from + i) (inl (omega arith))) (r .below i k) };
             apart = inr h;
           }
 
@@ -110,7 +117,8 @@ module _ {p : ℕ} (l : Listed p) where
           rw e
           record {
             kept = kept-then (n .kept) (record { long = length-subtracted p c at from zs slot; same = subtracted-outside p c at from zs slot });
-            is = λ i k. byte-is p (raised p h base slot xs j i) (subtracted-below p c at from zs slot i w k l) (subtracted-symbol p c at from zs slot i w k ∙ value i k);
+            is = λ i k. byte-is p (raised p h base slot xs j i) (subtracted-below p c at from zs slot i w k l)
+                (subtracted-symbol p c at from zs slot i w k ∙ value i k);
           }
         where
           at : ℕ
@@ -119,12 +127,20 @@ module _ {p : ℕ} (l : Listed p) where
           w : at + slot ≤ length zs
           w = rw (n .kept .long) room
 
-          value : (i : ℕ) → i < slot → sumOf p (symbol p (getD zs (at + i) 0)) (negativeOf p (productOf p (symbol p c) (symbol p (getD zs (from + i) 0)))) ≡ raised p h base slot xs j i
+          value : (i : ℕ) → i < slot → sumOf p (symbol p (getD zs (at + i) 0))
+              (negativeOf p (productOf p (symbol p c) (symbol p (getD zs (from + i) 0)))) ≡ raised p h base slot xs j i
           value i k =
-              rw (n .is i k, symbol-byte, n .kept .same (from + i) (inl (omega arith)), opposite (symbol p (getD xs (from + i) 0)), neg-neg L (symbol p (getD xs (from + i) 0)))
+              rw (
+                n .is i k,
+                symbol-byte,
+                n .kept .same (from + i) (inl (omega arith)),
+                opposite (symbol p (getD xs (from + i) 0)),
+                neg-neg L (symbol p (getD xs (from + i) 0)),
+              )
               (next (j - 1) (omega arith))
             where
-              next : (q : ℕ) → j ≡ suc q → sumOf p (negativeOf p (productFrom p h xs at i)) (symbol p (getD xs (from + i) 0)) ≡ raised p h base slot xs j i
+              next : (q : ℕ) → j ≡ suc q → sumOf p (negativeOf p (productFrom p h xs at i)) (symbol p (getD xs (from + i) 0))
+                  ≡ raised p h base slot xs j i
               next q f =
                   let m = suc-mul q slot in
                   let g = ap (λ (x : ℕ). x * slot) f in
@@ -158,7 +174,8 @@ module _ {p : ℕ} {h : List ℕ} {base slot slots : ℕ} where
           size = a .size;
           factor = a .factor;
           short = omega (arith, a .short, top);
-          region = record { within = omega (arith, top); below = λ i k. rw (r .same (base + i) (omega arith)) (a .region .below i (omega (arith, top))) };
+          region =
+              record { within = omega (arith, top); below = λ i k. rw (r .same (base + i) (omega arith)) (a .region .below i (omega (arith, top))) };
         }
 
     pub raising-more : {zs : List ℕ} → RaisedSlot p h base slot (j - 1) ys zs → Raising p h base slot slots (j - 1) xs zs
@@ -175,7 +192,8 @@ module _ {p : ℕ} {h : List ℕ} {base slot slots : ℕ} where
 
         go : (i e : ℕ) → j - 1 ≤ i → i < slots → e < slot → Dec (i ≡ j - 1) → getD zs (base + i * slot + e) 0 ≡ raised p h base slot xs i e .byte
         go i e k m g (yes d) =
-            rw d (b .is e g ∙ ap (λ (a : Element p). a .byte) (raised-low (symbols-field p l .ring) (symbolsOf p h) (slotsAt p base slot ys) (slotsAt p base slot xs) (j - 1) e (old e g)))
+            rw d (b .is e g ∙ ap (λ (a : Element p). a .byte)
+            (raised-low (symbols-field p l .ring) (symbolsOf p h) (slotsAt p base slot ys) (slotsAt p base slot xs) (j - 1) e (old e g)))
         go i e k m g (no d) =
             let n = block-end slot {i = j - 1} {k = i} (omega arith) in
             b .kept .same (base + i * slot + e) (inr (omega arith)) ∙ r .is i e (omega arith) m g

@@ -87,7 +87,8 @@ returns-2 c =
     record {
       first = rw (o .before .if1 .left) at (o .before .before .refuse-finish .ensures);
       curve = λ e.
-          subst (λ (S : Shape). Hands S (rowsOf S (t .args .rows .now)) (d .hand-over .last .1 .1 .1 .1 .0) (f .find .result .weight) (c .height .result)) (o .of .ensures)
+          subst (λ (S : Shape). Hands S (rowsOf S (t .args .rows .now)) (d .hand-over .last .1 .1 .1 .1 .0) (f .find .result .weight)
+          (c .height .result)) (o .of .ensures)
           (record { row = f .find .result .row; lightest = f .find .ensures; bytes = u .0; tall = c .height .ensures });
       rest = subst (λ (S : Shape). Untouched (curveBytes S) (t .args .curve .now) (d .hand-over .last .1 .1 .1 .1 .0)) (o .of .ensures) (u .1);
       refused = λ n. absurd (n refl);

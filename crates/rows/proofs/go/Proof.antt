@@ -13,12 +13,14 @@ use Rattle.rows.specs.Work.{Crosses}
 use Rattle.rows.specs.declared.Shape.{Shape}
 use Rattle.rows.proofs.Notes.{good-note}
 use Rattle.rows.proofs.Placing.{light-row}
-use Rattle.rows.proofs.Going.{Going, going-begins, going-lead, going-rises, going-below, going-crosses, going-updates, ends-finished, ends-paused, ends-halted}
+use Rattle.rows.proofs.Going.{Going, going-begins, going-lead, going-rises, going-below, going-crosses, going-updates, ends-finished}
+use Rattle.rows.proofs.Going.{ends-paused, ends-halted}
 use Rattle.rows.proofs.go.Statement.{statement}
 use Rattle.rows.proofs.go.Tie as tie
 
 abbrev Inv-loop : tie.InvT-loop
-Inv-loop note rows₀ allowance shape l r₀ left₀ rows r left = (shape ≡ shapeOf note) × (l ≡ shape .l) × Going shape (note .r) allowance rows₀ rows r left
+Inv-loop note rows₀ allowance shape l r₀ left₀ rows r left =
+    (shape ≡ shapeOf note) × (l ≡ shape .l) × Going shape (note .r) allowance rows₀ rows r left
 
 abbrev μ-loop : tie.MeasureT-loop
 μ-loop note rows₀ allowance shape l r₀ left₀ rows r left = suc l - r + left
@@ -36,14 +38,16 @@ module _ (c : tie.At-loop Inv-loop μ-loop) where
 -- the leading terms of row r and of the row below
 lead : (c : tie.After-row-lead Inv-loop μ-loop) → let a = c .before .before .before in
     Lead (symbols (S a .p) .ring) (S a .u) (c .row-lead .result .weight) (c .row-lead .result .power) (rowsOf (S a) (a .loop .rows) (a .loop .r))
-lead c = let a = c .before .before .before in going-lead (g a) (a .loop .r) (c .before .before .loop-test .taken) (c .row-lead .result) (c .row-lead .ensures)
+lead c = let a = c .before .before .before in
+    going-lead (g a) (a .loop .r) (c .before .before .loop-test .taken) (c .row-lead .result) (c .row-lead .ensures)
 
 crosses : (c : tie.After-row-lead2 Inv-loop μ-loop) → let b = c .before .before .before .before in let a = b .before .before .before in
     Crosses (S a) (a .loop .rows) (a .loop .r) (b .row-lead .result .weight) (b .row-lead .result .power) (c .row-lead2 .result .weight)
 crosses c =
     let e = c .before .before .before in
     let b = e .before in
-    going-crosses (g (b .before .before .before)) (b .before .before .loop-test .taken) (lead b) (e .if1 .left) (c .row-lead2 .result) (c .row-lead2 .ensures)
+    going-crosses (g (b .before .before .before)) (b .before .before .loop-test .taken) (lead b) (e .if1 .left) (c .row-lead2 .result)
+    (c .row-lead2 .ensures)
 
 of-requires : tie.Need-of-requires Inv-loop μ-loop
 of-requires c κs = let n = good-note (c .before .pre .good) in (omega arith, omega arith)
@@ -75,7 +79,8 @@ loop-again c =
     let a = b .before .before .before in (
       a .loop .inv .0,
       a .loop .inv .1,
-      subst (λ (r : ℕ). Going (S a) (s a .args .note .r) (s a .args .allowance) (s a .args .rows .now) (a .loop .rows) r (a .loop .left)) (sym (add-one (a .loop .r)))
+      subst (λ (r : ℕ). Going (S a) (s a .args .note .r) (s a .args .allowance) (s a .args .rows .now) (a .loop .rows) r (a .loop .left))
+          (sym (add-one (a .loop .r)))
           (going-rises (g a) (b .before .before .loop-test .taken) (rw (c .if1 .taken) at (lead b))),
     )
 
@@ -88,7 +93,8 @@ returns c =
     let e = t .before in
     let b = e .before in
     let a = b .before .before .before in
-    ends-paused (a .loop .inv .0) (g a) (c .at-row .ensures) (omega arith) (b .before .before .loop-test .taken) (lead b) (e .if1 .left) (t .if2 .taken) refl
+    ends-paused (a .loop .inv .0) (g a) (c .at-row .ensures) (omega arith) (b .before .before .loop-test .taken) (lead b) (e .if1 .left)
+    (t .if2 .taken) refl
 
 same-length : tie.Need-same-length Inv-loop μ-loop
 same-length c = returns c .rest .long
@@ -116,7 +122,8 @@ returns-2 c =
     let t = c .before in
     let n = t .before .before .before in
     let a = n .before .before .before .before .before .before .before in
-    ends-halted (a .loop .inv .0) (g a) (c .at-row2 .ensures) refl (crosses n) (omega arith) (t .before .vanishes .ensures .holds (t .if3 .taken)) refl
+    ends-halted (a .loop .inv .0) (g a) (c .at-row2 .ensures) refl (crosses n) (omega arith)
+    (t .before .vanishes .ensures .holds (t .if3 .taken)) refl
 
 same-length-2 : tie.Need-same-length-2 Inv-loop μ-loop
 same-length-2 c = returns-2 c .rest .long
@@ -138,7 +145,8 @@ loop-again-2 c =
     let a = n .before .before .before .before .before .before .before in (
       a .loop .inv .0,
       a .loop .inv .1,
-      going-updates (g a) (crosses n) (m .update .last .0) (omega arith) (f .before .vanishes .ensures .fails (f .if3 .left)) (m .update .ensures .0) (m .update .ensures .1),
+      going-updates (g a) (crosses n) (m .update .last .0) (omega arith) (f .before .vanishes .ensures .fails (f .if3 .left))
+          (m .update .ensures .0) (m .update .ensures .1),
     )
 
 at-row-requires-3 : tie.Need-at-row-requires-3 Inv-loop μ-loop

@@ -40,7 +40,8 @@ module _ (R : Ring) (u : ℕ) (Q : Curve R) where
       }
 
   -- one power of y more, of which the x-polynomial has degree size - 1
-  module _ {j size : ℕ} {found : Found} (f : FoundFrom (suc j) found) (above : (e : ℕ) → size ≤ e → Q j e ≡ 𝟘) (last : 0 < size → Q j (size - 1) ≢ 𝟘) where
+  module _ {j size : ℕ} {found : Found} (f : FoundFrom (suc j) found) (above : (e : ℕ) → size ≤ e → Q j e ≡ 𝟘)
+      (last : 0 < size → Q j (size - 1) ≢ 𝟘) where
     -- what was found still leads where it is larger than all of the new power
     keeps : (found .some ≡ false → (i : ℕ) → Q j i ≡ 𝟘) → (found .some ≡ true → (i : ℕ) → found .weight < i + u * j → Q j i ≡ 𝟘) → FoundFrom j found
     keeps all beyond =
@@ -49,17 +50,25 @@ module _ (R : Ring) (u : ℕ) (Q : Curve R) where
           lead = λ e.
               let d = f .lead e in
               let k = d .inside in
-              record { inside = omega arith; degree = d .degree; weight = d .weight; nonzero = d .nonzero; rest = λ t i h l q. rest e d t i h l q (ℕ-discrete t j) };
+              record {
+                inside = omega arith;
+                degree = d .degree;
+                weight = d .weight;
+                nonzero = d .nonzero;
+                rest = λ t i h l q. rest e d t i h l q (ℕ-discrete t j);
+              };
         }
       where
         none : found .some ≡ false → (t i : ℕ) → j ≤ t → Dec (t ≡ j) → Q t i ≡ 𝟘
         none e t i h (yes k) = rw k (all e i)
         none e t i h (no k) = f .none e t i (omega arith)
 
-        rest : found .some ≡ true → LeadFrom (suc j) (found .weight) (found .power) → (t i : ℕ) → j ≤ t → found .weight ≤ i + u * t → (i + u * t ≤ found .weight → suc (found .power) ≤ t) → Dec (t ≡ j) → Q t i ≡ 𝟘
+        rest : found .some ≡ true → LeadFrom (suc j) (found .weight) (found .power) → (t i : ℕ) → j ≤ t → found .weight ≤ i + u * t
+            → (i + u * t ≤ found .weight → suc (found .power) ≤ t) → Dec (t ≡ j) → Q t i ≡ 𝟘
         rest e d t i h l q (yes k) = rw k (beyond e i (over (rw k at l) (rw k at q) (decLe (i + u * j) (found .weight))))
           where
-            over : found .weight ≤ i + u * j → (i + u * j ≤ found .weight → suc (found .power) ≤ j) → Dec (i + u * j ≤ found .weight) → found .weight < i + u * j
+            over : found .weight ≤ i + u * j → (i + u * j ≤ found .weight → suc (found .power) ≤ j) → Dec (i + u * j ≤ found .weight)
+                → found .weight < i + u * j
             over l q (yes m) = let z = q m in let y = d .inside in absurd (omega arith)
             over l q (no m) = omega arith
         rest e d t i h l q (no k) = d .rest t i (omega arith) l q
@@ -70,10 +79,18 @@ module _ (R : Ring) (u : ℕ) (Q : Curve R) where
     found-more (heavier k h) =
         record {
           none = λ e. absurd (true≢false e);
-          lead = λ e. record { inside = omega arith; degree = size - 1; weight = refl; nonzero = last k; rest = λ t i m l q. rest t i m l q (ℕ-discrete t j) (found .some) refl };
+          lead =
+              λ e. record {
+                inside = omega arith;
+                degree = size - 1;
+                weight = refl;
+                nonzero = last k;
+                rest = λ t i m l q. rest t i m l q (ℕ-discrete t j) (found .some) refl;
+              };
         }
       where
-        rest : (t i : ℕ) → j ≤ t → size - 1 + u * j ≤ i + u * t → (i + u * t ≤ size - 1 + u * j → suc j ≤ t) → Dec (t ≡ j) → (b : Bool) → found .some ≡ b → Q t i ≡ 𝟘
+        rest : (t i : ℕ) → j ≤ t → size - 1 + u * j ≤ i + u * t → (i + u * t ≤ size - 1 + u * j → suc j ≤ t) → Dec (t ≡ j) → (b : Bool)
+            → found .some ≡ b → Q t i ≡ 𝟘
         rest t i m l q (yes e) b z = rw e (above i (over (rw e at l) (rw e at q) (decLe (i + u * j) (size - 1 + u * j))))
           where
             over : size - 1 + u * j ≤ i + u * j → (i + u * j ≤ size - 1 + u * j → suc j ≤ j) → Dec (i + u * j ≤ size - 1 + u * j) → size ≤ i
@@ -96,7 +113,8 @@ module _ {S : Shape} {xs : List ℕ} {i j size : ℕ} (b : Bytes S xs) (light : 
   slot-last k z = let m = size-to .within in size-to .last k (rowsOf-zero b g h (omega arith) z)
 
 -- a search in a curve that is not zero finds its leading term
-pub found-lead : {R : Ring} {u : ℕ} {Q : Curve R} {found : Found} → FoundLead R u Q found → (Zero R Q → ⊥) → Lead R u (found .weight) (found .power) Q
+pub found-lead : {R : Ring} {u : ℕ} {Q : Curve R} {found : Found} → FoundLead R u Q found → (Zero R Q → ⊥)
+    → Lead R u (found .weight) (found .power) Q
 found-lead {R} {u} {Q} {found} f n = go (found .some) refl
   where
     go : (b : Bool) → found .some ≡ b → Lead R u (found .weight) (found .power) Q

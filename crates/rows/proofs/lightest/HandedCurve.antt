@@ -23,7 +23,8 @@ use Rattle.curves.proofs.Least.{monic-at}
 use Rattle.rows.specs.Bytes.{slot, curveBytes, rowsBytes, rowsOf, place, HoldsCurve}
 use Rattle.rows.specs.Work.{Bytes, SizeTo, Whole, HandsOver, copiedFrom}
 use Rattle.rows.specs.declared.Shape.{Shape}
-use Rattle.rows.proofs.Placing.{block-end, row-end, slot-inside, place-inside, rows-small, rowsOf-at, rowsOf-boxed, place-below, rowsOf-zero, rowsOf-null}
+use Rattle.rows.proofs.Placing.{block-end, row-end, slot-inside, place-inside, rows-small, rowsOf-at, rowsOf-boxed, place-below, rowsOf-zero}
+use Rattle.rows.proofs.Placing.{rowsOf-null}
 
 module _ (src : List ℕ) (at : ℕ) (xs : List ℕ) where
   pub copied-from-none : copiedFrom src at zero xs ≡ xs
@@ -47,7 +48,8 @@ module _ (src : List ℕ) (at : ℕ) (xs : List ℕ) where
   copied-from-outside len i h = sets-tabulate-outside xs 0 len _ i 0 (inr (omega arith))
 
 -- a row's bytes lie within the rows
-pub row-within : {S : Shape} {xs : List ℕ} → Bytes S xs → {i len : ℕ} → i ≤ S .l → len ≡ curveBytes S → (i * len + len ≤ length xs) × (i * len + len ≤ rowsMost)
+pub row-within : {S : Shape} {xs : List ℕ} → Bytes S xs → {i len : ℕ} → i ≤ S .l → len ≡ curveBytes S
+    → (i * len + len ≤ length xs) × (i * len + len ≤ rowsMost)
 row-within {S} b h e = rw e (omega (arith, row-end S h, b .room), omega (arith, row-end S h, rows-small (b .fine)))
 
 -- a row's bytes times the inverse of its leading coefficient
@@ -89,7 +91,8 @@ module _ {S : Shape} {xs : List ℕ} {row weight : ℕ} {curve : List ℕ} (h : 
   monic-bytes j e g k =
       let q = slot-inside S g k in
       let a : row * curveBytes S + (j * slot S + e) ≡ place S row j e = omega arith in
-      rw (zero-add (j * slot S + e)) at (scaled-inside (S .p) (invByte (S .p) lead) 0 copy (curveBytes S) (j * slot S + e) (omega (arith, copy-length, h .room)) q)
+      rw (zero-add (j * slot S + e)) at
+      (scaled-inside (S .p) (invByte (S .p) lead) 0 copy (curveBytes S) (j * slot S + e) (omega (arith, copy-length, h .room)) q)
       ∙ rw (copy-at q, a, timesBytes, symbol-invByte, ← rowsOf-at S xs (h .inside) (h .inside) lead-short, ← rowsOf-at S xs (h .inside) g k)
       (ap (λ (x : Element (S .p)). x .byte) (sym (monic-at (symbols-field (S .p) (h .bytes .fine .size)) (S .u) weight row (rowsOf S xs row) j e)))
 
@@ -97,7 +100,8 @@ module _ {S : Shape} {xs : List ℕ} {row weight : ℕ} {curve : List ℕ} (h : 
   monic-rest =
       record {
         long = length-scaled (S .p) (invByte (S .p) lead) 0 copy (curveBytes S) ∙ copy-length;
-        same = λ q k. scaled-outside (S .p) (invByte (S .p) lead) 0 copy (curveBytes S) q (inr (omega arith)) ∙ copied-from-outside xs (row * curveBytes S) curve (curveBytes S) q k;
+        same = λ q k. scaled-outside (S .p) (invByte (S .p) lead) 0 copy (curveBytes S) q (inr (omega arith))
+            ∙ copied-from-outside xs (row * curveBytes S) curve (curveBytes S) q k;
       }
 
   -- the same, said as the code goes
@@ -105,12 +109,14 @@ module _ {S : Shape} {xs : List ℕ} {row weight : ℕ} {curve : List ℕ} (h : 
     pub hand-region : Region (S .p) 0 len ys
     hand-region = rw (ye, le) copy-region
 
-    pub handed : {at c : ℕ} {zs : List ℕ} → at ≡ place S row row (weight - S .u * row) → c ≡ invByte (S .p) (getD xs at 0) → zs ≡ scaled (S .p) c 0 len ys
+    pub handed : {at c : ℕ} {zs : List ℕ} → at ≡ place S row row (weight - S .u * row) → c ≡ invByte (S .p) (getD xs at 0)
+        → zs ≡ scaled (S .p) c 0 len ys
         → HoldsCurve S zs (monic (symbols (S .p)) (S .u) weight row (rowsOf S xs row)) × Untouched (curveBytes S) curve zs
     handed ae ce ze = rw (ze, ce, ae, ye, le) (monic-bytes, monic-rest)
 
 -- the slot of a row's last nonzero byte
-module _ {S : Shape} {xs : List ℕ} {row size : ℕ} (w : Whole S xs) (h : row ≤ S .l) (z : SizeTo xs (row * curveBytes S) (curveBytes S - 1) size) where
+module _ {S : Shape} {xs : List ℕ} {row size : ℕ} (w : Whole S xs) (h : row ≤ S .l)
+    (z : SizeTo xs (row * curveBytes S) (curveBytes S - 1) size) where
   row-past : (t e : ℕ) → size ≤ t * slot S + e → rowsOf S xs row t e ≡ symbol (S .p) 0
   row-past t e past =
       rowsOf-null S xs h t e

@@ -48,18 +48,21 @@ module _ {S : Shape} (fine : Fine S) (xs : List ℕ) (i : ℕ) {j : ℕ} (h : j 
 
 -- no power of y from t on, said of the bytes from slot t on
 module _ {S : Shape} {xs : List ℕ} (b : Bytes S xs) {i : ℕ} (g : i ≤ S .l) (t : ℕ) where
-  pub height-zero : Height (symbols (S .p) .ring) t (rowsOf S xs i) → ZeroBetween xs (i * curveBytes S + t * slot S) (i * curveBytes S + curveBytes S)
+  pub height-zero : Height (symbols (S .p) .ring) t (rowsOf S xs i)
+      → ZeroBetween xs (i * curveBytes S + t * slot S) (i * curveBytes S + curveBytes S)
   height-zero tall q a k =
       let c = in-curve S {q = q - i * curveBytes S} (omega arith) in
       let e = c .is in
       let p : q ≡ place S i (c .power) (c .degree) = omega arith in
-      rw p (rowsOf-zero b g (c .low) (c .short) (tall (c .power) (c .degree) (above (c .power) (c .degree) (c .short) (omega arith) (decLe t (c .power)))))
+      rw p (rowsOf-zero b g (c .low) (c .short)
+      (tall (c .power) (c .degree) (above (c .power) (c .degree) (c .short) (omega arith) (decLe t (c .power)))))
     where
       above : (j e : ℕ) → e ≤ S .width → t * slot S ≤ j * slot S + e → Dec (t ≤ j) → t ≤ j
       above j e h m (yes k) = k
       above j e h m (no k) = let z = block-end (slot S) {i = j} {k = t} (omega arith) in absurd (omega arith)
 
-  pub zero-height : ZeroBetween xs (i * curveBytes S + t * slot S) (i * curveBytes S + curveBytes S) → Height (symbols (S .p) .ring) t (rowsOf S xs i)
+  pub zero-height : ZeroBetween xs (i * curveBytes S + t * slot S) (i * curveBytes S + curveBytes S)
+      → Height (symbols (S .p) .ring) t (rowsOf S xs i)
   zero-height z j e h =
       rowsOf-null S xs g j e
       (λ k m.

@@ -47,7 +47,12 @@ fill-requires c κs =
     let i = c .before .before in
     let a = passed (i .before .before) in
     rw (i .before .of .ensures)
-    record { fine = good-fine (accepted-note a); room = a .room; long = i .interpolate .ensures .long; below = interpolated-below (a .places) (i .interpolate .ensures) }
+    record {
+      fine = good-fine (accepted-note a);
+      room = a .room;
+      long = i .interpolate .ensures .long;
+      below = interpolated-below (a .places) (i .interpolate .ensures);
+    }
 
 same-length-2 : tie.Need-same-length-2
 same-length-2 c = search needs

@@ -49,7 +49,13 @@ module _ {S : Shape} {xs : List ℕ} {r w s v : ℕ} (x : Crosses S xs r w s v) 
   pub ratio-byte : timesBytes (S .p) (getD xs (place S r s (w - S .u * s)) 0) (invByte (S .p) (getD xs (place S s s (v - S .u * s)) 0)) ≡ c .byte
   unfolding timesBytes ratio
   ratio-byte =
-      rw (timesBytes, symbol-invByte, ← rowsOf-at S xs (place-r .row) (place-r .power) (place-r .degree), ← rowsOf-at S xs (place-s .row) (place-s .power) (place-s .degree), ratio)
+      rw (
+        timesBytes,
+        symbol-invByte,
+        ← rowsOf-at S xs (place-r .row) (place-r .power) (place-r .degree),
+        ← rowsOf-at S xs (place-s .row) (place-s .power) (place-s .degree),
+        ratio,
+      )
 
   pub ratio-below : c .byte < S .p
   ratio-below = byte-below (x .bytes .fine .size) c

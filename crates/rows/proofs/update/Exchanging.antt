@@ -39,14 +39,16 @@ module _ {a b len i : ℕ} {xs ys : List ℕ} (e : Exchanges a b len xs) (h : i 
         long = length-set one (b + i) _ ∙ length-set ys (a + i) _ ∙ l;
         first = λ k m. first k m (ℕ-discrete k i);
         second = λ k m. second k m (ℕ-discrete k i);
-        rest = λ q g m. other q (⊎-elim (λ y z. omega arith) (λ y z. omega arith) g) (⊎-elim (λ y z. omega arith) (λ y z. omega arith) m) ∙ x .rest q (⊎-elim (λ y. inl y) (λ y. inr (omega arith)) g) (⊎-elim (λ y. inl y) (λ y. inr (omega arith)) m);
+        rest = λ q g m. other q (⊎-elim (λ y z. omega arith) (λ y z. omega arith) g) (⊎-elim (λ y z. omega arith) (λ y z. omega arith) m)
+            ∙ x .rest q (⊎-elim (λ y. inl y) (λ y. inr (omega arith)) g) (⊎-elim (λ y. inl y) (λ y. inr (omega arith)) m);
       }
     where
       first : (k : ℕ) → k < i + 1 → Dec (k ≡ i) → getD both (a + k) 0 ≡ getD xs (b + k) 0
       first k m (yes q) =
           let l = x .long in
           let s = e .first in
-          rw q (getD-set-other one (b + i) (a + i) (getD ys (a + i) 0) 0 (apart i h .0) ∙ getD-set-same ys (a + i) (getD ys (b + i) 0) 0 (omega arith) ∙ next-b)
+          rw q (getD-set-other one (b + i) (a + i) (getD ys (a + i) 0) 0 (apart i h .0)
+          ∙ getD-set-same ys (a + i) (getD ys (b + i) 0) 0 (omega arith) ∙ next-b)
       first k m (no q) = other (a + k) (λ z. omega arith) (apart k (omega arith) .0) ∙ x .first k (omega arith)
 
       second : (k : ℕ) → k < i + 1 → Dec (k ≡ i) → getD both (b + k) 0 ≡ getD xs (a + k) 0

@@ -28,9 +28,11 @@ Stands S xs at Q = (j e : ℕ) → j ≤ S .l → e ≤ S .width → symbol (S .
 abbrev pub Light : (S : Shape) → ℕ → Curve (symbols (S .p) .ring) → Type 0
 Light S v Q = (j e : ℕ) → v < e + S .u * j → Q j e ≡ symbol (S .p) 0
 
-module _ (S : Shape) (xs : List ℕ) (at v d : ℕ) (Q : Curve (symbols (S .p) .ring)) (stands : Stands S xs at Q) (light : Light S v Q) (fits : d + v ≤ S .width) where
+module _ (S : Shape) (xs : List ℕ) (at v d : ℕ) (Q : Curve (symbols (S .p) .ring)) (stands : Stands S xs at Q) (light : Light S v Q)
+    (fits : d + v ≤ S .width) where
   -- d bytes before the coefficient of x^e y^j stands that of x^d Q
-  moved : (j e : ℕ) → j ≤ S .l → e ≤ S .width → d ≤ j * slot S + e → symbol (S .p) (getD xs (at + (j * slot S + e - d)) 0) ≡ delay (symbols (S .p) .ring) d (Q j) e
+  moved : (j e : ℕ) → j ≤ S .l → e ≤ S .width → d ≤ j * slot S + e
+      → symbol (S .p) (getD xs (at + (j * slot S + e - d)) 0) ≡ delay (symbols (S .p) .ring) d (Q j) e
   moved j e h k m = go (decLe d e)
     where
       below : (j : ℕ) → j ≤ S .l → d ≤ j * slot S + e → e < d → symbol (S .p) (getD xs (at + (j * slot S + e - d)) 0) ≡ symbol (S .p) 0
@@ -45,7 +47,8 @@ module _ (S : Shape) (xs : List ℕ) (at v d : ℕ) (Q : Curve (symbols (S .p) .
       go (yes l) =
           let q : at + (j * slot S + e - d) ≡ at + j * slot S + (e - d) = omega arith in
           let i : e ≡ d + (e - d) = omega arith in
-          rw q (stands j (e - d) h (omega arith)) ∙ sym (ap (delay (symbols (S .p) .ring) d (Q j)) i ∙ delay-at (symbols (S .p) .ring) d (e - d) (Q j))
+          rw q (stands j (e - d) h (omega arith))
+          ∙ sym (ap (delay (symbols (S .p) .ring) d (Q j)) i ∙ delay-at (symbols (S .p) .ring) d (e - d) (Q j))
       go (no l) = below j h m (omega arith) ∙ sym (delay-null (symbols (S .p) .ring) d e (Q j) (λ x y. absurd (omega arith)))
 
   -- the run that takes c x^d Q off the bytes from `row` on
@@ -55,7 +58,8 @@ module _ (S : Shape) (xs : List ℕ) (at v d : ℕ) (Q : Curve (symbols (S .p) .
 
     pub subtracted-curve : (j e : ℕ) → j ≤ S .l → e ≤ S .width
         → symbol (S .p) (getD after (row + j * slot S + e) 0)
-        ≡ sumOf (S .p) (symbol (S .p) (getD xs (row + j * slot S + e) 0)) (negativeOf (S .p) (productOf (S .p) (symbol (S .p) c) (delay (symbols (S .p) .ring) d (Q j) e)))
+        ≡ sumOf (S .p) (symbol (S .p) (getD xs (row + j * slot S + e) 0))
+        (negativeOf (S .p) (productOf (S .p) (symbol (S .p) c) (delay (symbols (S .p) .ring) d (Q j) e)))
     subtracted-curve j e h k = go (decLe d (j * slot S + e))
       where
         L : RingLaws (symbols (S .p) .ring)
@@ -65,20 +69,24 @@ module _ (S : Shape) (xs : List ℕ) (at v d : ℕ) (Q : Curve (symbols (S .p) .
         inside = slot-inside S h k
 
         go : Dec (d ≤ j * slot S + e) → symbol (S .p) (getD after (row + j * slot S + e) 0)
-            ≡ sumOf (S .p) (symbol (S .p) (getD xs (row + j * slot S + e) 0)) (negativeOf (S .p) (productOf (S .p) (symbol (S .p) c) (delay (symbols (S .p) .ring) d (Q j) e)))
+            ≡ sumOf (S .p) (symbol (S .p) (getD xs (row + j * slot S + e) 0))
+            (negativeOf (S .p) (productOf (S .p) (symbol (S .p) c) (delay (symbols (S .p) .ring) d (Q j) e)))
         go (yes l) =
             let i : ℕ = j * slot S + e - d in
             let q : row + j * slot S + e ≡ row + d + i = omega arith in
-            rw (q, ← moved j e h k l) (subtracted-symbol (S .p) c (row + d) at xs (curveBytes S - d) i (omega (arith, inside)) (omega (arith, inside)))
+            rw (q, ← moved j e h k l)
+            (subtracted-symbol (S .p) c (row + d) at xs (curveBytes S - d) i (omega (arith, inside)) (omega (arith, inside)))
         go (no l) =
             rw (delay-null (symbols (S .p) .ring) d e (Q j) (λ x y. absurd (omega arith)), mul-zero L (symbol (S .p) c), neg-zero L, add-zero L)
             (ap (symbol (S .p)) (subtracted-outside (S .p) c (row + d) at xs (curveBytes S - d) (row + j * slot S + e) (inl (omega arith))))
 
 -- what is outside row r stays
-pub subtracted-elsewhere : (S : Shape) (c from r d : ℕ) (xs : List ℕ) → d ≤ S .width → (q : ℕ) → (q < r * curveBytes S) ⊎ (r * curveBytes S + curveBytes S ≤ q)
+pub subtracted-elsewhere : (S : Shape) (c from r d : ℕ) (xs : List ℕ) → d ≤ S .width → (q : ℕ)
+    → (q < r * curveBytes S) ⊎ (r * curveBytes S + curveBytes S ≤ q)
     → getD (subtracted (S .p) c (r * curveBytes S + d) from (curveBytes S - d) xs) q 0 ≡ getD xs q 0
 subtracted-elsewhere S c from r d xs h q o = subtracted-outside (S .p) c (r * curveBytes S + d) from xs (curveBytes S - d) q (away o)
   where
-    away : (q < r * curveBytes S) ⊎ (r * curveBytes S + curveBytes S ≤ q) → (q < r * curveBytes S + d) ⊎ (r * curveBytes S + d + (curveBytes S - d) ≤ q)
+    away : (q < r * curveBytes S) ⊎ (r * curveBytes S + curveBytes S ≤ q)
+        → (q < r * curveBytes S + d) ⊎ (r * curveBytes S + d + (curveBytes S - d) ≤ q)
     away (inl a) = inl (omega arith)
     away (inr a) = let b = slot-inside S {j = zero} {e = S .width} (omega arith) (omega arith) in inr (omega arith)

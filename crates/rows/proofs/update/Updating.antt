@@ -29,7 +29,8 @@ use Rattle.rows.proofs.update.Moving.{Stands, Light, subtracted-curve, 
 use Rattle.rows.proofs.update.CrossedRows.{due, crosses-w, crosses-v}
 
 -- - c q - (-1) d
-turned : {R : Ring} (L : RingLaws R) (c q d : R .Car) → R .plus (R .times (R .neg c) q) (R .neg (R .times (R .neg (R .𝟙)) d)) ≡ R .plus d (R .neg (R .times c q))
+turned : {R : Ring} (L : RingLaws R) (c q d : R .Car)
+    → R .plus (R .times (R .neg c) q) (R .neg (R .times (R .neg (R .𝟙)) d)) ≡ R .plus d (R .neg (R .times c q))
 turned {R} L c q d = ring L (c ∷ q ∷ d ∷ []) (search readings depth 25) tt
 
 module _ {S : Shape} {xs : List ℕ} {r w s v : ℕ} (x : Crosses S xs r w s v) where
@@ -60,7 +61,8 @@ module _ {S : Shape} {xs : List ℕ} {r w s v : ℕ} (x : Crosses S xs r w s v) 
         own : (i : ℕ) → i ≤ S .l → getD xs (place S i j e) 0 ≡ rows i j e .byte
         own i g = holds-own (x .bytes) i j e g h k
 
-        go : Dec (i ≡ r) → Dec (i ≡ s) → Swapped R w v (rows r) (rows s) (update F (S .u) r w s v rows s) → getD ys (place S i j e) 0 ≡ update F (S .u) r w s v rows i j e .byte
+        go : Dec (i ≡ r) → Dec (i ≡ s) → Swapped R w v (rows r) (rows s) (update F (S .u) r w s v rows s)
+            → getD ys (place S i j e) 0 ≡ update F (S .u) r w s v rows i j e .byte
         go (yes q) b d = rw (q, update-r Φ (due x)) (new j e h k)
         go (no a) (no b) d = rw (update-other Φ (due x) i a b) (others i j e a b h k ∙ own i g)
         go (no a) (yes q) (inl (l, d)) = rw (q, d) (stays l j e h k ∙ own s (x .other))
@@ -93,16 +95,26 @@ module _ {S : Shape} {xs : List ℕ} {r w s v : ℕ} (x : Crosses S xs r w s v) 
         (λ i j e a b g k. outside i j e a g k)
       where
         outside : (i j e : ℕ) → i ≢ r → j ≤ S .l → e ≤ S .width → getD once (place S i j e) 0 ≡ getD xs (place S i j e) 0
-        outside i j e n g k = subtracted-elsewhere S (c .byte) (s * curveBytes S) r (w - v) xs (let a = crosses-w x in omega arith) (place S i j e) (place-apart S n g k)
+        outside i j e n g k =
+            subtracted-elsewhere S (c .byte) (s * curveBytes S) r (w - v) xs (let a = crosses-w x in omega arith) (place S i j e)
+            (place-apart S n g k)
 
         new : (j e : ℕ) → j ≤ S .l → e ≤ S .width → getD once (place S r j e) 0 ≡ cross R (v - w) (rows r) c (w - v) (rows s) j e .byte
         new j e g k =
             let z : v - w ≡ 0 = omega arith in
             let fits = crosses-w x in
             byte-is (S .p) (cross R (v - w) (rows r) c (w - v) (rows s) j e)
-            (subtracted-keeps (x .bytes .fine .size) (c .byte) _ (s * curveBytes S) _ xs (run-room (w - v) (omega arith)) (place S r j e) (place-below (x .bytes) (x .current) g k))
-            (subtracted-curve S xs (s * curveBytes S) v (w - v) (rows s) (rows-stand s (x .other)) (lead-bounds (x .lead-s)) (omega arith) (x .bytes .fine .size) (c .byte) (r * curveBytes S) (room r (x .current)) j e g k
-            ∙ rw (rows-stand r (x .current) j e g k, symbol-byte (S .p) c, cross-at (Φ .ring) (v - w) (rows r) c (w - v) (rows s) j e, z, delay-zero R (rows r j) e))
+            (subtracted-keeps (x .bytes .fine .size) (c .byte) _ (s * curveBytes S) _ xs (run-room (w - v) (omega arith)) (place S r j e)
+            (place-below (x .bytes) (x .current) g k))
+            (subtracted-curve S xs (s * curveBytes S) v (w - v) (rows s) (rows-stand s (x .other)) (lead-bounds (x .lead-s)) (omega arith)
+            (x .bytes .fine .size) (c .byte) (r * curveBytes S) (room r (x .current)) j e g k
+            ∙ rw (
+              rows-stand r (x .current) j e g k,
+              symbol-byte (S .p) c,
+              cross-at (Φ .ring) (v - w) (rows r) c (w - v) (rows s) j e,
+              z,
+              delay-zero R (rows r j) e,
+            ))
 
   -- x^d row r - c row s, where the rows have changed places first
   module _ (h : w < v) (ys : List ℕ) (swapped : Exchanged (r * curveBytes S) (s * curveBytes S) (curveBytes S) xs ys) where
@@ -142,18 +154,22 @@ module _ {S : Shape} {xs : List ℕ} {r w s v : ℕ} (x : Crosses S xs r w s v) 
         d-small = let a = crosses-v x in omega arith
 
         outside : (i j e : ℕ) → i ≢ r → j ≤ S .l → e ≤ S .width → getD twice (place S i j e) 0 ≡ getD ys (place S i j e) 0
-        outside i j e n g k = subtracted-elsewhere S (negByte (S .p) 1) (s * curveBytes S) r (v - w) zs d-small (place S i j e) (place-apart S n g k) ∙ scaled-apart g k i n
+        outside i j e n g k =
+            subtracted-elsewhere S (negByte (S .p) 1) (s * curveBytes S) r (v - w) zs d-small (place S i j e) (place-apart S n g k)
+            ∙ scaled-apart g k i n
 
         -- the old row r stands at row s, and row r is - c times the old row s
         stands : Stands S zs (s * curveBytes S) (rows r)
         stands j e g k = rw (scaled-apart g k s (x .apart), at-s g k) (rows-stand r (x .current) j e g k)
 
-        scaled-row : (j e : ℕ) → j ≤ S .l → e ≤ S .width → symbol (S .p) (getD zs (place S r j e) 0) ≡ productOf (S .p) (negativeOf (S .p) c) (rows s j e)
+        scaled-row : (j e : ℕ) → j ≤ S .l → e ≤ S .width
+            → symbol (S .p) (getD zs (place S r j e) 0) ≡ productOf (S .p) (negativeOf (S .p) c) (rows s j e)
         scaled-row j e g k =
             let a : place S r j e ≡ r * curveBytes S + (j * slot S + e) = omega arith in
             let t = room r (x .current) in
             let u = swapped .long in
-            let z = scaled-symbol (S .p) (negByte (S .p) (c .byte)) (r * curveBytes S) ys (curveBytes S) (j * slot S + e) (omega arith) (slot-inside S g k) in
+            let z = scaled-symbol (S .p) (negByte (S .p) (c .byte)) (r * curveBytes S) ys (curveBytes S) (j * slot S + e) (omega arith)
+            (slot-inside S g k) in
             rw (← a, at-r g k, symbol-negByte, symbol-byte, rows-stand s (x .other) j e g k) at z
 
         new : (j e : ℕ) → j ≤ S .l → e ≤ S .width → getD twice (place S r j e) 0 ≡ cross R (v - w) (rows r) c (w - v) (rows s) j e .byte
@@ -163,9 +179,12 @@ module _ {S : Shape} {xs : List ℕ} {r w s v : ℕ} (x : Crosses S xs r w s v) 
             let t = room r (x .current) in
             let u = swapped .long in
             byte-is (S .p) (cross R (v - w) (rows r) c (w - v) (rows s) j e)
-            (subtracted-keeps (x .bytes .fine .size) (negByte (S .p) 1) _ (s * curveBytes S) _ zs (rw long (run-room (v - w) d-small)) (place S r j e)
-            (scaled-keeps (x .bytes .fine .size) (negByte (S .p) (c .byte)) (r * curveBytes S) (curveBytes S) ys (omega arith) (place S r j e) (rw (at-r g k) (place-below (x .bytes) (x .other) g k))))
-            (subtracted-curve S zs (s * curveBytes S) w (v - w) (rows r) stands (lead-bounds (x .lead-r)) (omega arith) (x .bytes .fine .size) (negByte (S .p) 1) (r * curveBytes S) (rw long t) j e g k
+            (subtracted-keeps (x .bytes .fine .size) (negByte (S .p) 1) _ (s * curveBytes S) _ zs (rw long (run-room (v - w) d-small))
+            (place S r j e)
+            (scaled-keeps (x .bytes .fine .size) (negByte (S .p) (c .byte)) (r * curveBytes S) (curveBytes S) ys (omega arith) (place S r j e)
+            (rw (at-r g k) (place-below (x .bytes) (x .other) g k))))
+            (subtracted-curve S zs (s * curveBytes S) w (v - w) (rows r) stands (lead-bounds (x .lead-r)) (omega arith) (x .bytes .fine .size)
+            (negByte (S .p) 1) (r * curveBytes S) (rw long t) j e g k
             ∙ rw (scaled-row j e g k, symbol-negByte, cross-at (Φ .ring) (v - w) (rows r) c (w - v) (rows s) j e, z, delay-zero R (rows s j) e)
             (turned (Φ .ring) c (rows s j e) (delay R (v - w) (rows r j) e)))
 
@@ -193,7 +212,8 @@ module _ {S : Shape} {xs : List ℕ} {r w s v : ℕ} (x : Crosses S xs r w s v) 
       record { first = omega arith; second = omega arith; apart = rows-away }
 
   -- any list of that length, of which both rows are below p
-  module _ {ys : List ℕ} (long : length ys ≡ length xs) (below-r : (i : ℕ) → i < len → getD ys (r * len + i) 0 < S .p) (below-s : (i : ℕ) → i < len → getD ys (s * len + i) 0 < S .p) where
+  module _ {ys : List ℕ} (long : length ys ≡ length xs) (below-r : (i : ℕ) → i < len → getD ys (r * len + i) 0 < S .p)
+      (below-s : (i : ℕ) → i < len → getD ys (s * len + i) 0 < S .p) where
     scales : {k : ℕ} → k < S .p → Scales (S .p) k (r * len) len ys
     scales h =
         let a = row-in r (x .current) in
@@ -209,7 +229,12 @@ module _ {S : Shape} {xs : List ℕ} {r w s v : ℕ} (x : Crosses S xs r w s v) 
         record {
           size = x .bytes .fine .size;
           factor = h;
-          target = record { within = omega arith; below = λ i l. let e : r * len + d + i ≡ r * len + (d + i) = omega arith in rw e (below-r (d + i) (omega arith)) };
+          target =
+              record {
+                within = omega arith;
+                below = λ i l. let e : r * len + d + i ≡ r * len + (d + i) = omega arith in
+                    rw e (below-r (d + i) (omega arith));
+              };
           source = record { within = omega arith; below = λ i l. below-s i (omega arith) };
           apart = ⊎-elim (λ y. inl (omega arith)) (λ y. inr (omega arith)) rows-away;
         }
@@ -225,7 +250,8 @@ module _ {S : Shape} {xs : List ℕ} {r w s v : ℕ} (x : Crosses S xs r w s v) 
     pub asks-scale : {k : ℕ} → k < S .p → Scales (S .p) k (r * len) len ys
     asks-scale = scales (e .long) (λ i h. rw (e .first i h) (below s (x .other) i h)) (λ i h. rw (e .second i h) (below r (x .current) i h))
 
-    pub asks-exchanged : (k : ℕ) {n : ℕ} {zs : List ℕ} → zs ≡ scaled (S .p) k (r * len) len ys → n < S .p → Subtracts (S .p) n (r * len + (v - w)) (s * len) (len - (v - w)) zs
+    pub asks-exchanged : (k : ℕ) {n : ℕ} {zs : List ℕ} → zs ≡ scaled (S .p) k (r * len) len ys → n < S .p
+        → Subtracts (S .p) n (r * len + (v - w)) (s * len) (len - (v - w)) zs
     asks-exchanged k is-scaled h =
         let a = crosses-v x in
         let m = row-in r (x .current) in
@@ -238,7 +264,8 @@ module _ {S : Shape} {xs : List ℕ} {r w s v : ℕ} (x : Crosses S xs r w s v) 
         (omega arith)
         h
 
-    pub exchange-leaves : w < v → {ws : List ℕ} (f k n : ℕ) {zs : List ℕ} → f ≡ ratio (symbols (S .p)) (S .u) s w v (rowsOf S xs r) (rowsOf S xs s) .byte → k ≡ negByte (S .p) f → n ≡ negByte (S .p) 1
+    pub exchange-leaves : w < v → {ws : List ℕ} (f k n : ℕ) {zs : List ℕ}
+        → f ≡ ratio (symbols (S .p)) (S .u) s w v (rowsOf S xs r) (rowsOf S xs s) .byte → k ≡ negByte (S .p) f → n ≡ negByte (S .p) 1
         → zs ≡ scaled (S .p) k (r * len) len ys → ws ≡ subtracted (S .p) n (r * len + (v - w)) (s * len) (len - (v - w)) zs
         → Holds S ws (update (symbols (S .p)) (S .u) r w s v (rowsOf S xs)) × Untouched (rowsBytes S) xs ws
     exchange-leaves h {ws} f k n fs ks ns zs-is ws-is = (
@@ -249,7 +276,8 @@ module _ {S : Shape} {xs : List ℕ} {r w s v : ℕ} (x : Crosses S xs r w s v) 
             let a = crosses-v x in
             let b = row-end S (x .current) in
             let d = row-end S (x .other) in
-            rw es (subtracted-elsewhere S _ _ r (v - w) _ (omega arith) q (inr (omega arith)) ∙ scaled-outside (S .p) _ (r * curveBytes S) ys (curveBytes S) q (inr (omega arith)) ∙ swapped .rest q (inr (omega arith)) (inr (omega arith)));
+            rw es (subtracted-elsewhere S _ _ r (v - w) _ (omega arith) q (inr (omega arith)) ∙ scaled-outside (S .p) _ (r * curveBytes S) ys
+            (curveBytes S) q (inr (omega arith)) ∙ swapped .rest q (inr (omega arith)) (inr (omega arith)));
       },
     )
       where
@@ -257,13 +285,21 @@ module _ {S : Shape} {xs : List ℕ} {r w s v : ℕ} (x : Crosses S xs r w s v) 
         swapped = rw is at e
 
         es : ws ≡ subtracted (S .p) (negByte (S .p) 1) (r * curveBytes S + (v - w)) (s * curveBytes S) (curveBytes S - (v - w))
-            (scaled (S .p) (negByte (S .p) (ratio (symbols (S .p)) (S .u) s w v (rowsOf S xs r) (rowsOf S xs s) .byte)) (r * curveBytes S) (curveBytes S) ys)
+            (scaled (S .p) (negByte (S .p) (ratio (symbols (S .p)) (S .u) s w v (rowsOf S xs r) (rowsOf S xs s) .byte)) (r * curveBytes S)
+            (curveBytes S) ys)
         es = rw (zs-is, ns, ks, fs, is) at ws-is
 
   pub subtract-leaves : v ≤ w → {ys : List ℕ} (k : ℕ) → k ≡ ratio (symbols (S .p)) (S .u) s w v (rowsOf S xs r) (rowsOf S xs s) .byte
       → ys ≡ subtracted (S .p) k (r * len + (w - v)) (s * len) (len - (w - v)) xs
       → Holds S ys (update (symbols (S .p)) (S .u) r w s v (rowsOf S xs)) × Untouched (rowsBytes S) xs ys
-  subtract-leaves h {ys} k ks ys-is = (rw es (subtract-holds x h), record { long = rw es (length-subtracted (S .p) _ _ _ xs _); same = λ q l. rw es (subtracted-elsewhere S _ _ r (w - v) xs (omega (arith, crosses-w x)) q (inr (omega (arith, row-end S (x .current))))) })
+  subtract-leaves h {ys} k ks ys-is = (
+    rw es (subtract-holds x h),
+    record {
+      long = rw es (length-subtracted (S .p) _ _ _ xs _);
+      same = λ q l. rw es (subtracted-elsewhere S _ _ r (w - v) xs (omega (arith, crosses-w x)) q (inr (omega (arith, row-end S (x .current)))));
+    },
+  )
     where
-      es : ys ≡ subtracted (S .p) (ratio (symbols (S .p)) (S .u) s w v (rowsOf S xs r) (rowsOf S xs s) .byte) (r * curveBytes S + (w - v)) (s * curveBytes S) (curveBytes S - (w - v)) xs
+      es : ys ≡ subtracted (S .p) (ratio (symbols (S .p)) (S .u) s w v (rowsOf S xs r) (rowsOf S xs s) .byte) (r * curveBytes S + (w - v))
+          (s * curveBytes S) (curveBytes S - (w - v)) xs
       es = rw (is, ks) at ys-is

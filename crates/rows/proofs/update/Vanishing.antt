@@ -59,7 +59,8 @@ module _ {S : Shape} {xs : List ℕ} {r w s v : ℕ} (x : Crosses S xs r w s v) 
   Φ = symbols-field (S .p) (x .bytes .fine .size)
 
   -- the new row r, coefficient by coefficient
-  delayed-symbol : (d : ℕ) {i j e : ℕ} → i ≤ S .l → j ≤ S .l → e ≤ S .width → symbol (S .p) (delayedByte xs (i * curveBytes S + j * slot S) d e) ≡ delay R d (rows i j) e
+  delayed-symbol : (d : ℕ) {i j e : ℕ} → i ≤ S .l → j ≤ S .l → e ≤ S .width
+      → symbol (S .p) (delayedByte xs (i * curveBytes S + j * slot S) d e) ≡ delay R d (rows i j) e
   delayed-symbol d {i} {j} {e} g h k = go (decLe d e)
     where
       go : Dec (d ≤ e) → symbol (S .p) (delayedByte xs (i * curveBytes S + j * slot S) d e) ≡ delay R d (rows i j) e
@@ -70,11 +71,19 @@ module _ {S : Shape} {xs : List ℕ} {r w s v : ℕ} (x : Crosses S xs r w s v) 
       go (no l) = rw (lt-leb d e (omega arith)) (sym (delay-null R d e (rows i j) (λ y z. absurd (omega arith))))
 
   cross-byte : {j e : ℕ} → j ≤ S .l → e ≤ S .width
-      → minusBytes (S .p) (delayedByte xs (r * curveBytes S + j * slot S) (v - w) e) (timesBytes (S .p) (c .byte) (delayedByte xs (s * curveBytes S + j * slot S) (w - v) e))
+      → minusBytes (S .p) (delayedByte xs (r * curveBytes S + j * slot S) (v - w) e)
+      (timesBytes (S .p) (c .byte) (delayedByte xs (s * curveBytes S + j * slot S) (w - v) e))
       ≡ cross R (v - w) (rows r) c (w - v) (rows s) j e .byte
   unfolding minusBytes
   cross-byte {j} {e} h k =
-      rw (minusBytes, symbol-timesBytes, symbol-byte (S .p) c, delayed-symbol (v - w) (x .current) h k, delayed-symbol (w - v) (x .other) h k, cross-at (Φ .ring) (v - w) (rows r) c (w - v) (rows s) j e)
+      rw (
+        minusBytes,
+        symbol-timesBytes,
+        symbol-byte (S .p) c,
+        delayed-symbol (v - w) (x .current) h k,
+        delayed-symbol (w - v) (x .other) h k,
+        cross-at (Φ .ring) (v - w) (rows r) c (w - v) (rows s) j e,
+      )
 
   -- the test whether the new row r is zero
   abbrev pub crossed : Curve R
@@ -83,7 +92,8 @@ module _ {S : Shape} {xs : List ℕ} {r w s v : ℕ} (x : Crosses S xs r w s v) 
   abbrev pub Vanishing : ℕ → Type 0
   Vanishing j = SlotVanishes S (c .byte) (r * curveBytes S + j * slot S) (v - w) (s * curveBytes S + j * slot S) (w - v) xs
 
-  pub vanishing-is : {b : Bool} (j : ℕ) {cv a up f down : ℕ} → cv ≡ c .byte → a ≡ r * curveBytes S + j * slot S → up ≡ v - w → f ≡ s * curveBytes S + j * slot S → down ≡ w - v
+  pub vanishing-is : {b : Bool} (j : ℕ) {cv a up f down : ℕ} → cv ≡ c .byte → a ≡ r * curveBytes S + j * slot S → up ≡ v - w
+      → f ≡ s * curveBytes S + j * slot S → down ≡ w - v
       → Decided b (SlotVanishes S cv a up f down xs) → Decided b (Vanishing j)
   vanishing-is j p q t u z d = rw (p, q, t, u, z) at d
 

@@ -1,4 +1,5 @@
--- `text::read` meets its contract. Every reading of the text has the lines that were taken where they were taken, so where the next line is refused there is
+-- `text::read` meets its contract. Every reading of the text has the lines that were taken where they were taken, so where the next line is
+-- refused there is
 -- no reading; and the seven lines together are one.
 use mathlib.Core.Path.{_≡_, sym, ap, subst}
 use mathlib.Core.Bool.{true}
@@ -80,7 +81,8 @@ m-passes : (c : tie.Else3) (r : Meaning) → Readable (text₃ c) r → (m-value
 m-passes c r p = passes (optional-plain 1) (m-taken c) (k-goes (c .before .before .before .before) r p)
 
 -- an empty `l=` means the value of `m=`, which is r's
-l-line : (c : tie.Else3) (r : Meaning) → Readable (text₃ c) r → Line (bytes "l=") (λ v. Optional (m-value c) v (r .l)) (Lines (drop 4 (lines r))) (drop (m-next c) (text₃ c))
+l-line : (c : tie.Else3) (r : Meaning) → Readable (text₃ c) r
+    → Line (bytes "l=") (λ v. Optional (m-value c) v (r .l)) (Lines (drop 4 (lines r))) (drop (m-next c) (text₃ c))
 l-line c r p = let q = m-passes c r p in line-map (λ v. subst (λ x. Optional x v (r .l)) (sym (q .0))) (λ rest h. h) (q .1)
 
 abbrev l-next : tie.Else4 → ℕ
@@ -89,7 +91,8 @@ l-next c = c .before .before .optional-line2 .result .next
 abbrev l-value : tie.Else4 → ℕ
 l-value c = c .before .before .optional-line2 .result .value
 
-l-taken : (c : tie.Else4) → Taken (bytes "l=") (Optional (m-value (c .before .before .before .before))) (text₄ c) (m-next (c .before .before .before .before)) (l-value c) (l-next c)
+l-taken : (c : tie.Else4) → Taken (bytes "l=") (Optional (m-value (c .before .before .before .before))) (text₄ c)
+    (m-next (c .before .before .before .before)) (l-value c) (l-next c)
 l-taken c = c .before .before .optional-line2 .ensures .holds (not-false _ (c .if4 .left))
 
 l-goes : (c : tie.Else4) → Goes (text₄ c) 4 (l-next c)
@@ -113,7 +116,8 @@ points-next c = c .before .before .numbers-line .result .next
 abbrev points-value : tie.Else6 → List ℕ
 points-value c = take (c .before .before .numbers-line .result .count) (c .before .before .numbers-line .result .items)
 
-points-taken : (c : tie.Else6) → Taken (bytes "points=") FewNumbers (text₆ c) (t-next (c .before .before .before .before)) (points-value c) (points-next c)
+points-taken : (c : tie.Else6)
+    → Taken (bytes "points=") FewNumbers (text₆ c) (t-next (c .before .before .before .before)) (points-value c) (points-next c)
 points-taken c = c .before .before .numbers-line .ensures .takes .holds (not-false _ (c .if6 .left))
 
 points-goes : (c : tie.Else6) → Goes (text₆ c) 6 (points-next c)
@@ -125,7 +129,8 @@ word-next c = c .before .before .numbers-line2 .result .next
 abbrev word-value : tie.Else7 → List ℕ
 word-value c = take (c .before .before .numbers-line2 .result .count) (c .before .before .numbers-line2 .result .items)
 
-word-taken : (c : tie.Else7) → Taken (bytes "word=") FewNumbers (text₇ c) (points-next (c .before .before .before .before)) (word-value c) (word-next c)
+word-taken : (c : tie.Else7)
+    → Taken (bytes "word=") FewNumbers (text₇ c) (points-next (c .before .before .before .before)) (word-value c) (word-next c)
 word-taken c = c .before .before .numbers-line2 .ensures .takes .holds (not-false _ (c .if7 .left))
 
 word-goes : (c : tie.Else7) → Goes (text₇ c) 7 (word-next c)
@@ -166,7 +171,9 @@ module _ (word : tie.Else7) where
   -- where the text ends after them, they are its reading
   whole : drop (word-next word) (text₇ word) ≡ [] → Readable (text₇ word) meaning
   whole end =
-      goes-on (field-taken field) (goes-on (k-taken k) (goes-on (m-taken m) (goes-on (l-taken l) (goes-on (t-taken t) (goes-on (points-taken points) (goes-on (word-taken word) end))))))
+      goes-on (field-taken field)
+      (goes-on (k-taken k) (goes-on (m-taken m)
+      (goes-on (l-taken l) (goes-on (t-taken t) (goes-on (points-taken points) (goes-on (word-taken word) end))))))
 
 slice-aggregate-number-line : tie.Need-slice-aggregate-number-line
 slice-aggregate-number-line c = search needs
@@ -192,7 +199,8 @@ unread-requires-2 c κs = search needs
 
 returns-2 : tie.Need-returns-2
 returns-2 c = let d = c .before .before .before in
-    rw (c .unread2 .ensures) (unreadable (λ r p. refuses (r .k) (d .number-line2 .ensures) (not-true _ (c .before .if2 .taken)) (field-goes (d .before .before) r p)))
+    rw (c .unread2 .ensures)
+    (unreadable (λ r p. refuses (r .k) (d .number-line2 .ensures) (not-true _ (c .before .if2 .taken)) (field-goes (d .before .before) r p)))
 
 slice-aggregate-optional-line : tie.Need-slice-aggregate-optional-line
 slice-aggregate-optional-line c = search needs
@@ -205,7 +213,8 @@ unread-requires-3 c κs = search needs
 
 returns-3 : tie.Need-returns-3
 returns-3 c = let d = c .before .before .before in
-    rw (c .unread3 .ensures) (unreadable (λ r p. refuses (r .m) (d .optional-line .ensures) (not-true _ (c .before .if3 .taken)) (k-goes (d .before .before) r p)))
+    rw (c .unread3 .ensures)
+    (unreadable (λ r p. refuses (r .m) (d .optional-line .ensures) (not-true _ (c .before .if3 .taken)) (k-goes (d .before .before) r p)))
 
 slice-aggregate-optional-line-2 : tie.Need-slice-aggregate-optional-line-2
 slice-aggregate-optional-line-2 c = search needs
@@ -218,7 +227,8 @@ unread-requires-4 c κs = search needs
 
 returns-4 : tie.Need-returns-4
 returns-4 c = let d = c .before .before .before in
-    rw (c .unread4 .ensures) (unreadable (λ r p. refuses (r .l) (d .optional-line2 .ensures) (not-true _ (c .before .if4 .taken)) (l-line (d .before .before) r p)))
+    rw (c .unread4 .ensures)
+    (unreadable (λ r p. refuses (r .l) (d .optional-line2 .ensures) (not-true _ (c .before .if4 .taken)) (l-line (d .before .before) r p)))
 
 slice-aggregate-number-line-3 : tie.Need-slice-aggregate-number-line-3
 slice-aggregate-number-line-3 c = search needs
@@ -231,7 +241,8 @@ unread-requires-5 c κs = search needs
 
 returns-5 : tie.Need-returns-5
 returns-5 c = let d = c .before .before .before in
-    rw (c .unread5 .ensures) (unreadable (λ r p. refuses (r .t) (d .number-line3 .ensures) (not-true _ (c .before .if5 .taken)) (l-goes (d .before .before) r p)))
+    rw (c .unread5 .ensures)
+    (unreadable (λ r p. refuses (r .t) (d .number-line3 .ensures) (not-true _ (c .before .if5 .taken)) (l-goes (d .before .before) r p)))
 
 slice-aggregate-numbers-line : tie.Need-slice-aggregate-numbers-line
 slice-aggregate-numbers-line c = search needs
@@ -244,7 +255,9 @@ unread-requires-6 c κs = search needs
 
 returns-6 : tie.Need-returns-6
 returns-6 c = let d = c .before .before .before in
-    rw (c .unread6 .ensures) (unreadable (λ r p. refuses (r .points) (d .numbers-line .ensures .takes) (not-true _ (c .before .if6 .taken)) (t-goes (d .before .before) r p)))
+    rw (c .unread6 .ensures)
+    (unreadable (λ r p. refuses (r .points) (d .numbers-line .ensures .takes) (not-true _ (c .before .if6 .taken))
+    (t-goes (d .before .before) r p)))
 
 slice-aggregate-numbers-line-2 : tie.Need-slice-aggregate-numbers-line-2
 slice-aggregate-numbers-line-2 c = search needs
@@ -257,7 +270,9 @@ unread-requires-7 c κs = search needs
 
 returns-7 : tie.Need-returns-7
 returns-7 c = let d = c .before .before .before in
-    rw (c .unread7 .ensures) (unreadable (λ r p. refuses (r .word) (d .numbers-line2 .ensures .takes) (not-true _ (c .before .if7 .taken)) (points-goes (d .before .before) r p)))
+    rw (c .unread7 .ensures)
+    (unreadable (λ r p. refuses (r .word) (d .numbers-line2 .ensures .takes) (not-true _ (c .before .if7 .taken))
+    (points-goes (d .before .before) r p)))
 
 unread-requires-8 : tie.Need-unread-requires-8
 unread-requires-8 c κs = search needs

@@ -52,7 +52,8 @@ returns-3 : tie.Need-returns-3
 returns-3 c =
     let p = c .before .before .before in
     let e = p .before .before .before in
-    has-written _ (e .if2 .left) (e .before .if1 .left) (first-alone (printed (e .before .before .before .before)) (c .if3 .taken) (p .put-line .ensures))
+    has-written _ (e .if2 .left) (e .before .if1 .left)
+    (first-alone (printed (e .before .before .before .before)) (c .if3 .taken) (p .put-line .ensures))
 
 slice-aggregate-put-line-2 : tie.Need-slice-aggregate-put-line-2
 slice-aggregate-put-line-2 c = search needs
@@ -91,7 +92,8 @@ returns-4 c =
     has-written _ (e .if2 .left) (e .before .if1 .left)
     (all-lines (printed (e .before .before .before .before)) (zero .if3 .left)
     (put-join (first .put-line .ensures)
-    (put-join (updates .put-line2 .ensures) (put-join (weight .put-line3 .ensures) (put-join (count .put-line4 .ensures) (messages .put-messages .ensures))))))
+    (put-join (updates .put-line2 .ensures)
+    (put-join (weight .put-line3 .ensures) (put-join (count .put-line4 .ensures) (messages .put-messages .ensures))))))
 
 pub write-spec : {M : Type 1} → statement M
 write-spec =

@@ -48,7 +48,8 @@ loop-again c =
       search needs,
       (
         omega (arith, l .loop .inv .1 .0, c .wide-product .ensures .1),
-        convolution-more (s .p) (s .top) (s .f .now) (s .xs .now) (l .loop .i) (l .loop .sum) (c .wide-product .result) (l .loop .inv .1 .1) (c .wide-product .ensures .0),
+        convolution-more (s .p) (s .top) (s .f .now) (s .xs .now) (l .loop .i) (l .loop .sum) (c .wide-product .result) (l .loop .inv .1 .1)
+            (c .wide-product .ensures .0),
       ),
     )
 
@@ -56,7 +57,8 @@ rem-result : tie.Need-rem-result Inv-loop μ-loop
 rem-result c = search needs
 
 cast-result : tie.Need-cast-result Inv-loop μ-loop
-cast-result c = let s = c .before .before .before .before in let h = mod-lt (c .before .loop .sum) {m = s .args .p} (search needs) in let l = s .pre .size .small in omega arith
+cast-result c = let s = c .before .before .before .before in let h = mod-lt (c .before .loop .sum) {m = s .args .p} (search needs) in
+    let l = s .pre .size .small in omega arith
 
 returns : tie.Need-returns Inv-loop μ-loop
 returns c =

@@ -34,7 +34,9 @@ refuse-request-requires : tie.Need-refuse-request-requires
 refuse-request-requires c κs = search needs
 
 returns : tie.Need-returns
-returns c = first-stops 7 (table (c .before .before .before .before .before .before)) (c .before .refuse-request .result) (c .before .refuse-request .ensures) (c .if1 .taken)
+returns c =
+    first-stops 7 (table (c .before .before .before .before .before .before)) (c .before .refuse-request .result)
+    (c .before .refuse-request .ensures) (c .if1 .taken)
 
 returns-2 : tie.Need-returns-2
 returns-2 c = past-7 (c .before) 8 (inl (inl (c .if2 .taken), refl))

@@ -8,7 +8,8 @@ use lib.ListN.{length, length-set}
 use Rattle.field.specs.Symbols.{symbols}
 use Rattle.near.specs.Search.{lowest}
 use Rattle.near.specs.Work.{curveOf}
-use Rattle.near.proofs.search.Levels.{Going, going-none, going-searches, going-messages, going-all, fitting, failing, opens, grown, passed, spelt-last, front-kept, with-last, with-next, next-searches, back-tries, back-leaves}
+use Rattle.near.proofs.search.Levels.{Going, going-none, going-searches, going-messages, going-all, fitting, failing, opens, grown, passed}
+use Rattle.near.proofs.search.Levels.{spelt-last, front-kept, with-last, with-next, next-searches, back-tries, back-leaves}
 use borrow.Fn.Kinds.{In, Out}
 use borrow.Fn.PlainCycle.{Measures, is, falls, and}
 use Rattle.near.proofs.search.+level+open.{statement}
@@ -44,15 +45,27 @@ abbrev open-below : ℕ → In 5 open-kinds.ps
 open-below t = and 5 open-kinds.ps (falls 5 open-kinds.ps _<_ μ-open t) open.Pre
 
 -- what the calls in `level` and in `open` ask and give, below t
-abbrev level-calls : ℕ → In 1 level-lts.ps·0 × Out 1 level-lts.ps·0 level-lts.r·0 × In 1 level-lts.ps·1 × Out 1 level-lts.ps·1 level-lts.r·1 × In 5 level-lts.ps·2 × Out 5 level-lts.ps·2 level-lts.r·2
+abbrev level-calls : ℕ → In 1 level-lts.ps·0 × Out 1 level-lts.ps·0 level-lts.r·0 × In 1 level-lts.ps·1 × Out 1 level-lts.ps·1 level-lts.r·1
+    × In 5 level-lts.ps·2 × Out 5 level-lts.ps·2 level-lts.r·2
 level-calls t = (lowest-reads.Asked, lowest-reads.Learnt, fits-reads.Asked, fits-reads.Learnt, open-below t, open.Post)
 
-abbrev open-calls : ℕ → In 4 open-lts.ps·0 × Out 4 open-lts.ps·0 open-lts.r·0 × In 1 open-lts.ps·1 × Out 1 open-lts.ps·1 open-lts.r·1 × In 5 open-lts.ps·2 × Out 5 open-lts.ps·2 open-lts.r·2 × In 0 open-lts.ps·3 × Out 0 open-lts.ps·3 open-lts.r·3
-open-calls t = (keep-reads.Asked, keep-reads.Learnt, shift-reads.Asked, shift-reads.Learnt, level-below t, level.Post, negative-reads.Asked, negative-reads.Learnt)
+abbrev open-calls : ℕ → In 4 open-lts.ps·0 × Out 4 open-lts.ps·0 open-lts.r·0 × In 1 open-lts.ps·1 × Out 1 open-lts.ps·1 open-lts.r·1
+    × In 5 open-lts.ps·2 × Out 5 open-lts.ps·2 open-lts.r·2 × In 0 open-lts.ps·3 × Out 0 open-lts.ps·3 open-lts.r·3
+open-calls t = (
+  keep-reads.Asked,
+  keep-reads.Learnt,
+  shift-reads.Asked,
+  shift-reads.Learnt,
+  level-below t,
+  level.Post,
+  negative-reads.Asked,
+  negative-reads.Learnt,
+)
 
 abbrev level-Inv-loop : level-lts.InvT-loop
 level-Inv-loop curve₀ chosen₀ points word messages₀ plan i count low found₀ c₀ curve chosen messages found c =
-    Going plan points word curve₀ chosen₀ messages₀ i count curve chosen messages found c × (low ≡ lowest (symbols (plan .p)) (suc (plan .l)) (suc (plan .width)) i (curveOf plan curve₀))
+    Going plan points word curve₀ chosen₀ messages₀ i count curve chosen messages found c
+    × (low ≡ lowest (symbols (plan .p)) (suc (plan .l)) (suc (plan .width)) i (curveOf plan curve₀))
 
 abbrev level-μ-loop : level-lts.MeasureT-loop
 level-μ-loop curve₀ chosen₀ points word messages₀ plan i count low found₀ c₀ curve chosen messages found c =
@@ -104,7 +117,11 @@ level-loop-again t c =
     let h = c .before .before .before .if1 .taken in
     let fit = c .before .fits2 .ensures in
     ⊎-elim
-    (λ w. (rw (w .11, w .12, w .13, w .14) (grown (s .pre .1 .0) g h (fitting (s .pre .1 .0) g (l .loop .inv .1) fit (w .0 .taken)) (w .4 .kept .1 .0) (w .4 .ensures)), l .loop .inv .1))
+    (λ w. (
+      rw (w .11, w .12, w .13, w .14) (grown (s .pre .1 .0) g h (fitting (s .pre .1 .0) g (l .loop .inv .1) fit (w .0 .taken))
+          (w .4 .kept .1 .0) (w .4 .ensures)),
+      l .loop .inv .1,
+    ))
     (λ w. (rw (w .1, w .2, w .3, w .4) (passed (s .pre .1 .0) g h (failing (s .pre .1 .0) g (l .loop .inv .1) fit (w .0 .left))), l .loop .inv .1))
     (c .if2 .came)
 
@@ -179,7 +196,10 @@ open-level-requires t c κs =
     let a = s .pre .1 in
     let n : suc (s .args .i) < s .args .plan .k = omega (arith, a .0 .next, c .before .before .before .before .before .before .before .if1 .left) in
     let shift = c .before .before .before .before .before .shift .ensures in
-    rw (add-one (s .args .i)) (omega (arith, s .pre .0), (next-searches (a .0) (a .1 .0) shift n, record { enough = rw (with-next (a .0) (a .1 .0) shift) (a .1 .1 .enough) }))
+    rw (add-one (s .args .i)) (
+      omega (arith, s .pre .0),
+      (next-searches (a .0) (a .1 .0) shift n, record { enough = rw (with-next (a .0) (a .1 .0) shift) (a .1 .1 .enough) }),
+    )
 
 -- src/search.rt:207:27
 open-negative-requires : (t : ℕ) → open-lts.Need-negative-requires (open-calls t) (open-at t) open.Post
@@ -188,9 +208,13 @@ open-negative-requires t c κs = search needs
 -- src/search.rt:207:5
 open-shift-requires-2 : (t : ℕ) → open-lts.Need-shift-requires-2 (open-calls t) (open-at t) open.Post
 open-shift-requires-2 t c κs =
-    let s = c .before .before .before .before .before .before .before .before .before .before .before .before .before .before .before .before .before .before .before .before .before .before .before in
+    let s =
+    c .before .before .before .before .before .before .before .before .before .before .before .before .before .before .before .before .before
+    .before .before .before .before .before .before in
     let a = s .pre .1 in
-    back-tries (a .0) (a .1 .0) (c .before .before .before .before .before .before .before .before .before .before .before .before .before .before .shift .ensures) (rw (add-one (s .args .i)) at (c .before .before .before .before .before .before .before .before .level .ensures)) (c .negative .ensures)
+    back-tries (a .0) (a .1 .0)
+    (c .before .before .before .before .before .before .before .before .before .before .before .before .before .before .shift .ensures)
+    (rw (add-one (s .args .i)) at (c .before .before .before .before .before .before .before .before .level .ensures)) (c .negative .ensures)
 
 -- src/search.rt:194:1
 open-same-length-3 : (t : ℕ) → open-lts.Need-same-length-3 (open-calls t) (open-at t) open.Post
@@ -199,8 +223,11 @@ open-same-length-3 t c = search needs
 -- src/search.rt:194:1
 open-same-length-4 : (t : ℕ) → open-lts.Need-same-length-4 (open-calls t) (open-at t) open.Post
 open-same-length-4 t c =
-    let s = c .before .before .before .before .before .before .before .before .before .before .before .before .before .before .before .before .before .before .before .before .before .before .before .before .before .before in
-    c .before .before .before .before .before .before .before .before .before .before .before .level .kept .1 .0 ∙ length-set (s .args .chosen .now) (s .args .i) (s .args .c)
+    let s =
+    c .before .before .before .before .before .before .before .before .before .before .before .before .before .before .before .before .before
+    .before .before .before .before .before .before .before .before .before in
+    c .before .before .before .before .before .before .before .before .before .before .before .level .kept .1 .0
+    ∙ length-set (s .args .chosen .now) (s .args .i) (s .args .c)
 
 -- src/search.rt:194:1
 open-same-length-5 : (t : ℕ) → open-lts.Need-same-length-5 (open-calls t) (open-at t) open.Post
@@ -209,9 +236,15 @@ open-same-length-5 t c = search needs
 -- src/search.rt:194:1
 open-returns-2 : (t : ℕ) → open-lts.Need-returns-2 (open-calls t) (open-at t) open.Post
 open-returns-2 t c =
-    let s = c .before .before .before .before .before .before .before .before .before .before .before .before .before .before .before .before .before .before .before .before .before .before .before .before .before .before in
+    let s =
+    c .before .before .before .before .before .before .before .before .before .before .before .before .before .before .before .before .before
+    .before .before .before .before .before .before .before .before .before in
     let a = s .pre .1 in
-    back-leaves (a .0) (a .1 .0) (c .before .before .before .before .before .before .before .before .before .before .before .before .before .before .before .before .before .shift .ensures) (rw (add-one (s .args .i)) at (c .before .before .before .before .before .before .before .before .before .before .before .level .ensures)) (c .before .before .before .negative .ensures) (c .before .before .shift2 .ensures)
+    back-leaves (a .0) (a .1 .0)
+    (c .before .before .before .before .before .before .before .before .before .before .before .before .before .before .before .before .before
+    .shift .ensures) (rw (add-one (s .args .i)) at
+    (c .before .before .before .before .before .before .before .before .before .before .before .level .ensures))
+    (c .before .before .before .negative .ensures) (c .before .before .shift2 .ensures)
 
 pub +level+open-spec : {M : Type 1} → statement M
 +level+open-spec = close μ-level μ-open (λ t. level-lts.spec (level-calls t)

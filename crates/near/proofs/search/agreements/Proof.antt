@@ -21,7 +21,8 @@ abbrev μ-loop : tie.MeasureT-loop
 μ-loop message points word plan count₀ s₀ count s = length points - s
 
 loop-holds : tie.Need-loop-holds Inv-loop μ-loop
-loop-holds c = let s = c .before .before .before .args in (search needs, search needs, sym (agreements-zero (taskFor (s .plan) (s .points .now) (s .word .now)) _))
+loop-holds c = let s = c .before .before .before .args in
+    (search needs, search needs, sym (agreements-zero (taskFor (s .plan) (s .points .now) (s .word .now)) _))
 
 shared-slice-read-value-at : tie.Need-shared-slice-read-value-at Inv-loop μ-loop
 shared-slice-read-value-at c = search needs
@@ -50,8 +51,17 @@ loop-again c =
     let h = c .before .before .before .before .loop-test .taken in
     let v = c .before .before .value-at .ensures in
     ⊎-elim
-    (λ w. (search needs, omega (arith, w .1), w .1 ∙ rw (add-one (l .loop .s), l .loop .inv .2) (sym (agrees (s .pre .0) (s .pre .1) h v (w .0 .taken)))))
-    (λ w. (search needs, omega (arith, w .1), w .1 ∙ rw (add-one (l .loop .s)) (l .loop .inv .2 ∙ sym (differs (s .pre .0) (s .pre .1) h v (w .0 .left)))))
+    (λ w. (
+      search needs,
+      omega (arith, w .1),
+      w .1 ∙ rw (add-one (l .loop .s), l .loop .inv .2) (sym (agrees (s .pre .0) (s .pre .1) h v (w .0 .taken))),
+    ))
+    (λ w. (
+      search needs,
+      omega (arith, w .1),
+      w .1 ∙ rw (add-one (l .loop .s)) (l .loop .inv .2
+          ∙ sym (differs (s .pre .0) (s .pre .1) h v (w .0 .left))),
+    ))
     (c .if1 .came)
 
 returns : tie.Need-returns Inv-loop μ-loop

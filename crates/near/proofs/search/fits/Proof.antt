@@ -38,7 +38,15 @@ product-requires : tie.Need-product-requires Inv-loop μ-loop
 product-requires c κs =
     let l = c .before .before in
     let s = l .before .before .before in
-    record { size = s .pre .laid .fine .size; left = s .pre .small; right = rw (l .loop .inv .1) (byte-below (s .pre .laid .fine .size) (horner (s .args .plan .p) (s .args .c) (suc (s .args .plan .l)) (sliceOf (s .args .plan) (s .args .curve .now) (s .args .i) (s .args .low)) (l .loop .j))) }
+    record {
+      size = s .pre .laid .fine .size;
+      left = s .pre .small;
+      right =
+          rw (l .loop .inv .1) (byte-below (s .pre .laid .fine .size)
+          (horner (s .args .plan .p) (s .args .c) (suc (s .args .plan .l))
+          (sliceOf (s .args .plan) (s .args .curve .now) (s .args .i) (s .args .low))
+          (l .loop .j)));
+    }
 
 sum-requires : tie.Need-sum-requires Inv-loop μ-loop
 sum-requires c κs =
@@ -46,7 +54,9 @@ sum-requires c κs =
     let s = l .before .before .before in
     record {
       size = s .pre .laid .fine .size;
-      left = rw (c .before .symbol-at .ensures) (byte-below (s .pre .laid .fine .size) (sliceOf (s .args .plan) (s .args .curve .now) (s .args .i) (s .args .low) (l .loop .j - 1)));
+      left =
+          rw (c .before .symbol-at .ensures)
+          (byte-below (s .pre .laid .fine .size) (sliceOf (s .args .plan) (s .args .curve .now) (s .args .i) (s .args .low) (l .loop .j - 1)));
       right = rw (c .product .ensures) (timesBytes-below (s .pre .laid .fine .size) (s .args .c) (l .loop .sum .value));
     }
 
@@ -56,8 +66,12 @@ loop-less c = search needs
 loop-again : tie.Need-loop-again Inv-loop μ-loop
 loop-again c =
     let l = c .before .before .before .before in
-    let s = l .before .before .before .args in
-    (search needs, c .sum .ensures ∙ rw (c .before .product .ensures, c .before .before .symbol-at .ensures, l .loop .inv .1) (horner-more (s .plan .p) (s .c) (suc (s .plan .l)) (sliceOf (s .plan) (s .curve .now) (s .i) (s .low)) _ (l .loop .j) (search needs) (search needs) (symbol-byte (s .plan .p) _)))
+    let s = l .before .before .before .args in (
+      search needs,
+      c .sum .ensures ∙ rw (c .before .product .ensures, c .before .before .symbol-at .ensures, l .loop .inv .1) (horner-more
+          (s .plan .p) (s .c) (suc (s .plan .l)) (sliceOf (s .plan) (s .curve .now) (s .i) (s .low)) _ (l .loop .j) (search needs) (search needs)
+          (symbol-byte (s .plan .p) _)),
+    )
 
 returns : tie.Need-returns Inv-loop μ-loop
 returns c =
@@ -65,7 +79,8 @@ returns c =
     let s = l .before .before .before .args in
     let z : l .loop .j ≡ 0 = search needs in
     let f = sliceOf (s .plan) (s .curve .now) (s .i) (s .low) in
-    let e : l .loop .sum .value ≡ value (symbols (s .plan .p) .ring) (symbol (s .plan .p) (s .c)) (suc (s .plan .l)) f .byte = l .loop .inv .1 ∙ rw (z, horner-all (s .plan .p) (s .c) (suc (s .plan .l)) f) in
+    let e : l .loop .sum .value ≡ value (symbols (s .plan .p) .ring) (symbol (s .plan .p) (s .c)) (suc (s .plan .l)) f .byte =
+    l .loop .inv .1 ∙ rw (z, horner-all (s .plan .p) (s .c) (suc (s .plan .l)) f) in
     record {
       holds = λ h. zero-is (s .plan .p) (sym e ∙ eqb-true (l .loop .sum .value) 0 h);
       fails = λ h d. eqb-false (l .loop .sum .value) 0 h (e ∙ byte-zero (s .plan .p) d);

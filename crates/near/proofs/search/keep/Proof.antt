@@ -14,7 +14,8 @@ agreements-requires c κs = search needs
 returns : tie.Need-returns
 returns c =
     let s = c .before .before .before .before .before .before .before .before in
-    wrote-none (kept-none (s .args .plan) (s .args .points .now) (s .args .word .now) (s .args .chosen .now) (c .before .before .agreements .ensures) (c .if1 .taken))
+    wrote-none (kept-none (s .args .plan) (s .args .points .now) (s .args .word .now) (s .args .chosen .now)
+    (c .before .before .agreements .ensures) (c .if1 .taken))
 
 mul-put : tie.Need-mul-put
 mul-put c = search needs
@@ -22,13 +23,15 @@ mul-put c = search needs
 put-requires : tie.Need-put-requires
 put-requires c κs =
     let s = c .before .before .before .before .before .before .before .before .before in
-    let e = kept-one (s .args .plan) (s .args .points .now) (s .args .word .now) (s .args .chosen .now) (c .before .before .before .agreements .ensures) (c .before .if1 .left) in
+    let e = kept-one (s .args .plan) (s .args .points .now) (s .args .word .now) (s .args .chosen .now)
+    (c .before .before .before .agreements .ensures) (c .before .if1 .left) in
     rw (s .pre .1 .0 .long) (room-one e (s .pre .1 .1))
 
 add-result : tie.Need-add-result
 add-result c =
     let s = c .before .before .before .before .before .before .before .before .before .before .before .before in
-    let e = kept-one (s .args .plan) (s .args .points .now) (s .args .word .now) (s .args .chosen .now) (c .before .before .before .before .before .before .agreements .ensures) (c .before .before .before .before .if1 .left) in
+    let e = kept-one (s .args .plan) (s .args .points .now) (s .args .word .now) (s .args .chosen .now)
+    (c .before .before .before .before .before .before .agreements .ensures) (c .before .before .before .before .if1 .left) in
     omega (arith, count-one e (s .pre .0 .some) (s .pre .1 .1))
 
 same-length : tie.Need-same-length
@@ -37,7 +40,8 @@ same-length c = search needs
 returns-2 : tie.Need-returns-2
 returns-2 c =
     let s = c .before .before .before .before .before .before .before .before .before .before .before .before in
-    let e = kept-one (s .args .plan) (s .args .points .now) (s .args .word .now) (s .args .chosen .now) (c .before .before .before .before .before .before .agreements .ensures) (c .before .before .before .before .if1 .left) in
+    let e = kept-one (s .args .plan) (s .args .points .now) (s .args .word .now) (s .args .chosen .now)
+    (c .before .before .before .before .before .before .agreements .ensures) (c .before .before .before .before .if1 .left) in
     wrote-one e (c .before .before .put .ensures)
 
 pub keep-spec : {M : Type 1} → statement M

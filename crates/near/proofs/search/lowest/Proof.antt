@@ -29,7 +29,8 @@ returns : tie.Need-returns Inv-loop μ-loop
 returns c =
     let l = c .before .before .before .before in
     let s = l .before .before in
-    sym (least-at (suc (s .args .plan .width)) _ (l .loop .v) (search needs) (l .loop .inv .1) (λ h. sym (c .before .stands .ensures) ∙ c .if2 .taken))
+    sym (least-at (suc (s .args .plan .width)) _ (l .loop .v) (search needs) (l .loop .inv .1)
+    (λ h. sym (c .before .stands .ensures) ∙ c .if2 .taken))
 
 add-v : tie.Need-add-v Inv-loop μ-loop
 add-v c = search needs

@@ -18,7 +18,8 @@ loop-holds : tie.Need-loop-holds Inv-loop μ-loop
 loop-holds c = (search needs, search needs, raised-none (c .before .pre .0 .laid))
 
 take-above-requires : tie.Need-take-above-requires Inv-loop μ-loop
-take-above-requires c κs = let l = c .before .before .before in let s = l .before .before in (record { laid = l .loop .inv .2 .laid; next = s .pre .0 .next; small = s .pre .0 .small }, search needs)
+take-above-requires c κs = let l = c .before .before .before in let s = l .before .before in
+    (record { laid = l .loop .inv .2 .laid; next = s .pre .0 .next; small = s .pre .0 .small }, search needs)
 
 add-q : tie.Need-add-q Inv-loop μ-loop
 add-q c = search needs
@@ -28,8 +29,11 @@ loop-less c = search needs
 
 loop-again : tie.Need-loop-again Inv-loop μ-loop
 loop-again c =
-    let l = c .before .before .before .before .before .before in
-    (search needs, search needs, rw (add-one (l .loop .q)) (raised-more (l .loop .inv .2) (l .loop .inv .0) (c .before .before .take-above .ensures)))
+    let l = c .before .before .before .before .before .before in (
+      search needs,
+      search needs,
+      rw (add-one (l .loop .q)) (raised-more (l .loop .inv .2) (l .loop .inv .0) (c .before .before .take-above .ensures)),
+    )
 
 same-length : tie.Need-same-length Inv-loop μ-loop
 same-length c = c .before .before .loop .inv .2 .rest .long

@@ -31,7 +31,9 @@ same-length-2 : tie.Need-same-length-2
 same-length-2 c = search needs
 
 returns : tie.Need-returns
-returns c = let s = c .before .before .before .before .before .before .before .before .before .before .before .before .before .before in ran (c .before .before .before .before .before .before .before .before .before .plan-of .ensures) (s .pre .1) (c .before .before .before .before .before .level .ensures)
+returns c = let s = c .before .before .before .before .before .before .before .before .before .before .before .before .before .before in
+    ran (c .before .before .before .before .before .before .before .before .before .plan-of .ensures) (s .pre .1)
+    (c .before .before .before .before .before .level .ensures)
 
 pub run-spec : {M : Type 1} → statement M
 run-spec =

@@ -27,7 +27,8 @@ returns : tie.Need-returns Inv-loop μ-loop
 returns c =
     let l = c .before .before .before .before in
     let s = l .before .before in
-    sym (some-one (symbols (s .args .plan .p)) (suc (s .args .plan .l)) (sliceOf (s .args .plan) (s .args .curve .now) (s .args .i) (s .args .v)) (l .loop .j) (search needs)
+    sym (some-one (symbols (s .args .plan .p)) (suc (s .args .plan .l)) (sliceOf (s .args .plan) (s .args .curve .now) (s .args .i) (s .args .v))
+    (l .loop .j) (search needs)
     (λ z. c .if2 .taken (c .before .symbol-at .ensures ∙ byte-zero (s .args .plan .p) z)))
 
 add-j : tie.Need-add-j Inv-loop μ-loop
@@ -46,7 +47,8 @@ returns-2 : tie.Need-returns-2 Inv-loop μ-loop
 returns-2 c =
     let l = c .before .before in
     let s = l .before .before in
-    sym (some-none (symbols (s .args .plan .p)) (suc (s .args .plan .l)) (sliceOf (s .args .plan) (s .args .curve .now) (s .args .i) (s .args .v)) (λ q h. l .loop .inv .1 q (search needs)))
+    sym (some-none (symbols (s .args .plan .p)) (suc (s .args .plan .l)) (sliceOf (s .args .plan) (s .args .curve .now) (s .args .i) (s .args .v))
+    (λ q h. l .loop .inv .1 q (search needs)))
 
 pub stands-spec : {M : Type 1} → statement M
 stands-spec =

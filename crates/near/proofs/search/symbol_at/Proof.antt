@@ -23,7 +23,8 @@ mul-at : tie.Need-mul-at
 mul-at c = let s = c .before .before .before .before in rw add-one (omega (arith, byte-inside (s .pre .0) (s .pre .1 .1) (c .before .if2 .left) .1))
 
 add-at-2 : tie.Need-add-at-2
-add-at-2 c = let s = c .before .before .before .before in rw add-one (omega (arith, byte-inside (s .pre .0) (s .pre .1 .1) (c .before .if2 .left) .1))
+add-at-2 c =
+    let s = c .before .before .before .before in rw add-one (omega (arith, byte-inside (s .pre .0) (s .pre .1 .1) (c .before .if2 .left) .1))
 
 shared-slice-read-result : tie.Need-shared-slice-read-result
 shared-slice-read-result c =

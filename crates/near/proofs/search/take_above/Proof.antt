@@ -52,7 +52,12 @@ returns : tie.Need-returns
 returns c =
     let s = c .before .before .before .before .before .before .before in
     let p = s .pre in
-    rw (c .before .before .subtract .ensures, add-one (s .args .plan .width), add-one (s .args .q), c .before .before .before .before .negative .ensures)
+    rw (
+      c .before .before .subtract .ensures,
+      add-one (s .args .plan .width),
+      add-one (s .args .q),
+      c .before .before .before .before .negative .ensures,
+    )
     (taken (p .0) (p .1))
 
 pub take-above-spec : {M : Type 1} → statement M

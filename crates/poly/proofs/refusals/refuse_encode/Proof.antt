@@ -30,11 +30,16 @@ after-4 : (c : tie.Else5) (n : ℕ) → let s = c .before .before .before .befor
 after-4 c n f = inr (size (c .before .before .before .before), inr (count (c .before .before), inr (degree c, f)))
 
 -- the table from 7 on
-after-6 : (c : tie.Else7) (n : ℕ) → let s = c .before .before .before .before .before .before .before .before .before .before .before .before .before .args in
+after-6 : (c : tie.Else7) (n : ℕ) → let s =
+    c .before .before .before .before .before .before .before .before .before .before .before .before .before .args in
     let table = encodeTable (s .p) (s .points .now) (s .message .now) (s .word .now) in First (drop 4 table) n → First table n
 after-6 c n f =
     after-4 (c .before .before .before .before) n
-    (inr (⊎-elim (c .before .before .before .too-large .ensures .fails (c .before .before .if6 .left)) (c .before .too-large2 .ensures .fails (c .if7 .left)), f))
+    (inr (
+      ⊎-elim (c .before .before .before .too-large .ensures .fails (c .before .before .if6 .left)) (c .before .too-large2 .ensures .fails
+          (c .if7 .left)),
+      f,
+    ))
 
 is-listed-requires : tie.Need-is-listed-requires
 is-listed-requires c κs = search needs
@@ -73,10 +78,12 @@ returns-8 : tie.Need-returns-8
 returns-8 c = after-6 (c .before .before) 7 (inl (c .before .repeated .ensures .holds (c .if8 .taken), refl))
 
 returns-9 : tie.Need-returns-9
-returns-9 c = let r = c .before in after-6 (r .before .before) 9 (inr (r .before .repeated .ensures .fails (r .if8 .left), inl (c .if9 .taken, refl)))
+returns-9 c =
+    let r = c .before in after-6 (r .before .before) 9 (inr (r .before .repeated .ensures .fails (r .if8 .left), inl (c .if9 .taken, refl)))
 
 returns-10 : tie.Need-returns-10
-returns-10 c = let r = c .before in after-6 (r .before .before) 0 (inr (r .before .repeated .ensures .fails (r .if8 .left), inr (λ w. omega arith, refl)))
+returns-10 c =
+    let r = c .before in after-6 (r .before .before) 0 (inr (r .before .repeated .ensures .fails (r .if8 .left), inr (λ w. omega arith, refl)))
 
 pub refuse-encode-spec : {M : Type 1} → statement M
 refuse-encode-spec =

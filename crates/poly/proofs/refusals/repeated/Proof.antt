@@ -41,7 +41,8 @@ loop-again c = (search needs, below-more _ _ (c .before .before .before .before 
 
 returns-2 : tie.Need-returns-2 Inv-loop μ-loop
 returns-2 c =
-    decided-false (λ t. c .before .loop .inv .1 (t .second) (let w = t .inside in omega arith) (record { place = t .first; inside = t .apart; is = t .same }))
+    decided-false (λ t. c .before .loop .inv .1 (t .second) (let w = t .inside in
+    omega arith) (record { place = t .first; inside = t .apart; is = t .same }))
 
 pub repeated-spec : {M : Type 1} → statement M
 repeated-spec =

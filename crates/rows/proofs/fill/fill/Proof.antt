@@ -10,7 +10,8 @@ use borrow.Author.Needs.{needs}
 use Rattle.poly.proofs.BufferLaws.{take-rest, untouched-then}
 use Rattle.rows.specs.Bytes.{rowsBytes}
 use Rattle.rows.specs.Filling.{RaisesRow}
-use Rattle.rows.proofs.fill.FilledRows.{RowsFilled, toFill, filled-none, filled-begins, filled-bare, filled-low, filled-high, filled-all, h-below, e-below}
+use Rattle.rows.proofs.fill.FilledRows.{RowsFilled, toFill, filled-none, filled-begins, filled-bare, filled-low, filled-high, filled-all}
+use Rattle.rows.proofs.fill.FilledRows.{h-below, e-below}
 use Rattle.rows.proofs.fill.fill.Statement.{statement}
 use Rattle.rows.proofs.fill.fill.Tie as tie
 use Rattle.rows.proofs.fill.fill.Reads as reads
@@ -80,7 +81,8 @@ fill-low-requires c κs =
       bare = filled-bare (t .before .if1 .taken) v;
     }
 
-raises : (t : tie.Then1 Inv-loop μ-loop) → let l = t .before .before in s l .args .m < l .loop .i → RaisesRow (s l .args .shape) (l .loop .i) (l .loop .rows)
+raises : (t : tie.Then1 Inv-loop μ-loop) → let l =
+    t .before .before in s l .args .m < l .loop .i → RaisesRow (s l .args .shape) (l .loop .i) (l .loop .rows)
 raises t k = let l = t .before .before in record { fine = s l .pre .fine; room = room l; some = omega arith; inside = t .if1 .taken }
 
 raise-row-requires : tie.Need-raise-row-requires Inv-loop μ-loop
@@ -99,8 +101,12 @@ loop-again c =
     let v = l .loop .inv .1 in
     let a = s l .args in
     let h = hOf (a .work .now) in
-    let e = eOf (a .work .now) in
-    (search needs, ⊎-elim (λ w. rw (w .5) (filled-low (a .shape) (a .m) h e (t .if1 .taken) v (w .2 .ensures))) (λ w. rw (w .5) (filled-high (a .shape) (a .m) h e (t .if1 .taken) v (s l .pre .fine .size) (w .0 .left) (raises t (w .0 .left)) (w .2 .ensures))) (c .if2 .came))
+    let e = eOf (a .work .now) in (
+      search needs,
+      ⊎-elim (λ w. rw (w .5) (filled-low (a .shape) (a .m) h e (t .if1 .taken) v (w .2 .ensures))) (λ w. rw (w .5)
+          (filled-high (a .shape) (a .m) h e (t .if1 .taken) v (s l .pre .fine .size) (w .0 .left) (raises t (w .0 .left)) (w .2 .ensures)))
+          (c .if2 .came),
+    )
 
 same-length : tie.Need-same-length Inv-loop μ-loop
 same-length c = search needs

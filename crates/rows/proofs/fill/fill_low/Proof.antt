@@ -76,8 +76,13 @@ loop-again c =
     let t = c .before .before in
     let n = t .before .before in
     let l = n .before in
-    let v = l .loop .inv in
-    (v .0, v .1, search needs, low-more (s l .pre) (first (l .before .before .before) .kept .long) (v .3) (n .loop-test .taken) (rw (v .0, v .1) at (t .times-y-less-h .ensures)))
+    let v = l .loop .inv in (
+      v .0,
+      v .1,
+      search needs,
+      low-more (s l .pre) (first (l .before .before .before) .kept .long) (v .3) (n .loop-test .taken) (rw (v .0, v .1) at
+          (t .times-y-less-h .ensures)),
+    )
 
 same-length : tie.Need-same-length Inv-loop μ-loop
 same-length c = c .before .loop .inv .3 .kept .long ∙ first (c .before .before .before .before) .kept .long

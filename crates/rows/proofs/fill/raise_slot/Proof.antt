@@ -43,8 +43,10 @@ scale-requires c κs =
     slot-scales (s .pre .size) (n .negative .ensures) (factors s) (m .multiply .ensures)
 
 -- there is a slot below
-under : (c : tie.Then1) → let a = c .before .before .before .before .before .before .before .before .before .before .before .before .args in a .slot ≤ a .j * a .slot
-under c = let a = c .before .before .before .before .before .before .before .before .before .before .before .before .args in omega (arith, mul-le-mul-right (a .slot) (c .if1 .taken))
+under : (c : tie.Then1) → let a = c .before .before .before .before .before .before .before .before .before .before .before .before .args in
+    a .slot ≤ a .j * a .slot
+under c = let a = c .before .before .before .before .before .before .before .before .before .before .before .before .args in
+    omega (arith, mul-le-mul-right (a .slot) (c .if1 .taken))
 
 sub-subtract : tie.Need-sub-subtract
 sub-subtract c = omega (arith, under (c .before))
@@ -58,7 +60,8 @@ subtract-requires c κs =
     let a = s .args in
     let u = under (c .before) in
     let e : a .base + a .j * a .slot - a .slot ≡ a .base + (a .j * a .slot - a .slot) = omega arith in
-    slot-subtracts (s .pre .size) (n .negative .ensures) (factors s) (omega arith) (rw e (region-part (a .j * a .slot - a .slot) (omega arith) (s .pre .region))) (negated z)
+    slot-subtracts (s .pre .size) (n .negative .ensures) (factors s) (omega arith)
+    (rw e (region-part (a .j * a .slot - a .slot) (omega arith) (s .pre .region))) (negated z)
 
 same-length : tie.Need-same-length
 same-length c = search needs
@@ -71,7 +74,8 @@ returns c =
     let s = n .before .before .before in
     let a = s .args in
     let u = under t in
-    raised-above (s .pre .size) (n .negative .ensures) (a .j) (negated z) (a .base + a .j * a .slot - a .slot) (t .if1 .taken) (omega arith) (omega (arith, factors s .region .within)) (c .before .before .subtract .ensures)
+    raised-above (s .pre .size) (n .negative .ensures) (a .j) (negated z) (a .base + a .j * a .slot - a .slot) (t .if1 .taken) (omega arith)
+    (omega (arith, factors s .region .within)) (c .before .before .subtract .ensures)
 
 same-length-2 : tie.Need-same-length-2
 same-length-2 c = search needs

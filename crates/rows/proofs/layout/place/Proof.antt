@@ -12,7 +12,8 @@ module _ (c : tie.After-slot) where
   abbrev s : tie.Start
   s = c .before .before
 
-  at : s .args .i * c .before .curve-bytes .result + s .args .j * c .slot .result + s .args .e ≡ placeOf (s .args .shape) (s .args .i) (s .args .j) (s .args .e)
+  at : s .args .i * c .before .curve-bytes .result + s .args .j * c .slot .result + s .args .e ≡ placeOf (s .args .shape) (s .args .i) (s .args .j)
+      (s .args .e)
   at = ap₂ (λ (x y : ℕ). s .args .i * x + s .args .j * y + s .args .e) (c .before .curve-bytes .ensures) (c .slot .ensures)
 
   small : s .args .i * c .before .curve-bytes .result + s .args .j * c .slot .result + s .args .e < rowsMost
@@ -22,7 +23,8 @@ curve-bytes-requires : tie.Need-curve-bytes-requires
 curve-bytes-requires c κs = c .pre .fine
 
 mul-result : tie.Need-mul-result
-mul-result c = let p = c .before .pre in rw (c .curve-bytes .ensures) (omega (arith, row-end (c .before .args .shape) (p .row), rows-small (p .fine)))
+mul-result c =
+    let p = c .before .pre in rw (c .curve-bytes .ensures) (omega (arith, row-end (c .before .args .shape) (p .row), rows-small (p .fine)))
 
 slot-requires : tie.Need-slot-requires
 slot-requires c κs = c .before .pre .fine

@@ -16,7 +16,8 @@ use Rattle.rows.proofs.leading.row_lead.Tie as tie
 
 abbrev Inv-loop : tie.InvT-loop
 Inv-loop rows shape i base slot found₀ j₀ found j =
-    (base ≡ i * curveBytes shape) × (slot ≡ slotOf shape) × (j ≤ suc (shape .l)) × FoundFrom (symbols (shape .p) .ring) (shape .u) (rowsOf shape rows i) j found
+    (base ≡ i * curveBytes shape) × (slot ≡ slotOf shape) × (j ≤ suc (shape .l)) × FoundFrom (symbols (shape .p) .ring) (shape .u)
+    (rowsOf shape rows i) j found
 
 abbrev μ-loop : tie.MeasureT-loop
 μ-loop rows shape i base slot found₀ j₀ found j = j
@@ -54,7 +55,9 @@ curve-bytes-requires : tie.Need-curve-bytes-requires Inv-loop μ-loop
 curve-bytes-requires c κs = c .before .pre .0 .fine
 
 mul-base : tie.Need-mul-base Inv-loop μ-loop
-mul-base c = rw (c .curve-bytes .ensures) (let p = c .before .before .pre in omega (arith, row-end (c .before .before .args .shape) (p .1 .0), rows-small (p .0 .fine)))
+mul-base c =
+    rw (c .curve-bytes .ensures) (let p = c .before .before .pre in
+    omega (arith, row-end (c .before .before .args .shape) (p .1 .0), rows-small (p .0 .fine)))
 
 slot-requires : tie.Need-slot-requires Inv-loop μ-loop
 slot-requires c κs = c .before .before .pre .0 .fine
@@ -68,7 +71,10 @@ loop-holds c =
       rw (c .before .before .curve-bytes .ensures),
       c .before .slot .ensures,
       omega arith,
-      record { none = λ e t i h. rowsOf-boxed (a .args .shape) (a .args .rows .now) (a .args .i) t i (inr (inl (omega arith))); lead = λ e. absurd (true≢false (sym e)) },
+      record {
+        none = λ e t i h. rowsOf-boxed (a .args .shape) (a .args .rows .now) (a .args .i) t i (inr (inl (omega arith)));
+        lead = λ e. absurd (true≢false (sym e));
+      },
     )
 
 sub-j : tie.Need-sub-j Inv-loop μ-loop
@@ -101,7 +107,8 @@ loop-again c =
     let v = n .before .loop .inv in
     let e : n .before .loop .j ≡ suc (j n) = omega arith in
     let p = s n .pre in
-    let z : SizeTo (s n .args .rows .now) (s n .args .i * curveBytes (S n) + j n * slotOf (S n)) (S n .width - S n .u * j n) (c .before .size-to .result) = rw (at n) at (c .before .size-to .ensures) in (
+    let z : SizeTo (s n .args .rows .now) (s n .args .i * curveBytes (S n) + j n * slotOf (S n)) (S n .width - S n .u * j n)
+    (c .before .size-to .result) = rw (at n) at (c .before .size-to .ensures) in (
       v .0,
       v .1,
       omega arith,

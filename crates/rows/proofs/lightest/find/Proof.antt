@@ -39,7 +39,8 @@ row-lead-requires : tie.Need-row-lead-requires Inv-loop μ-loop
 row-lead-requires c κs = let w = c .before .pre in (w .bytes, (omega arith, light w (omega arith)))
 
 loop-holds : tie.Need-loop-holds Inv-loop μ-loop
-loop-holds c = (0, refl, omega arith, lightest-one _ (found-own (c .row-lead .ensures) (c .before .before .pre .sound .own 0 (omega arith) (omega arith))))
+loop-holds c =
+    (0, refl, omega arith, lightest-one _ (found-own (c .row-lead .ensures) (c .before .before .pre .sound .own 0 (omega arith) (omega arith))))
 
 row-lead-requires-2 : tie.Need-row-lead-requires-2 Inv-loop μ-loop
 row-lead-requires-2 c κs = let w = c .before .before .before .before .before .pre in (w .bytes, (omega arith, light w (omega arith)))
@@ -54,8 +55,13 @@ loop-again : tie.Need-loop-again Inv-loop μ-loop
 loop-again c =
     let r = c .before .before in
     let v = r .before .before .before .loop .inv in
-    let p = rw (v .1) at (lead r) in
-    (suc (v .0), omega arith, omega arith, ⊎-elim (λ w. rw (w .1, w .2, v .1) (lightest-new (v .3) p (w .0 .taken))) (λ w. rw (w .1, w .2) (lightest-stays (v .3) p (w .0 .left))) (c .if2 .came))
+    let p = rw (v .1) at (lead r) in (
+      suc (v .0),
+      omega arith,
+      omega arith,
+      ⊎-elim (λ w. rw (w .1, w .2, v .1) (lightest-new (v .3) p (w .0 .taken))) (λ w. rw (w .1, w .2)
+          (lightest-stays (v .3) p (w .0 .left))) (c .if2 .came),
+    )
 
 returns : tie.Need-returns Inv-loop μ-loop
 returns c =

@@ -73,7 +73,8 @@ returns c =
     let z = c .before .before in
     let i = z .before .before in
     let n = i .before .before in
-    handed (s (b n) .pre) (b n .curve-bytes .ensures) (n .before .before .before .before .copy-from .ensures) (n .place .ensures) (i .inverse .ensures) (z .scale .ensures)
+    handed (s (b n) .pre) (b n .curve-bytes .ensures) (n .before .before .before .before .copy-from .ensures) (n .place .ensures)
+    (i .inverse .ensures) (z .scale .ensures)
 
 pub hand-over-spec : {M : Type 1} → statement M
 hand-over-spec =

@@ -21,7 +21,8 @@ returns-4 c =
     let l = c .before .before .before .args .l in
     record {
       holds = λ e. inr (inr (inr (ltb-true heightMost l e)));
-      fails = λ e. let h = ltb-false heightMost l e in ⊎-elim (λ x. omega arith) (⊎-elim (λ x. omega arith) (⊎-elim (λ x. omega arith) (λ x. omega arith)));
+      fails = λ e. let h = ltb-false heightMost l e in
+          ⊎-elim (λ x. omega arith) (⊎-elim (λ x. omega arith) (⊎-elim (λ x. omega arith) (λ x. omega arith)));
     }
 
 pub bad-heights-spec : {M : Type 1} → statement M

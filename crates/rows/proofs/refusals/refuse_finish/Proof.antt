@@ -34,7 +34,8 @@ fine c = subst Fine (sym (c .of .ensures)) (good-fine (good (c .before)))
 rows-size : (c : tie.After-rows-bytes) → c .rows-bytes .result ≡ rowsBytes (shapeOf (s (c .before .before) .args .note))
 rows-size c = c .rows-bytes .ensures ∙ ap rowsBytes (c .before .of .ensures)
 
-curve-size : (c : tie.After-curve-bytes) → let o = c .before .before .before in c .curve-bytes .result ≡ curveBytes (shapeOf (s (o .before) .args .note))
+curve-size : (c : tie.After-curve-bytes) → let o =
+    c .before .before .before in c .curve-bytes .result ≡ curveBytes (shapeOf (s (o .before) .args .note))
 curve-size c = c .curve-bytes .ensures ∙ ap curveBytes (c .before .before .before .of .ensures)
 
 module _ (c : tie.Else3) where
@@ -44,11 +45,13 @@ module _ (c : tie.Else3) where
   room : rowsBytes (shapeOf (s t .args .note)) ≤ length (s t .args .rows .now)
   room = omega (arith, c .before .before .if2 .left, rows-size (c .before .before .before))
 
-  long : TooShort (rowsBytes (shapeOf (s t .args .note))) (s t .args .rows .now) ⊎ TooShort (curveBytes (shapeOf (s t .args .note))) (s t .args .curve .now) → ⊥
+  long : TooShort (rowsBytes (shapeOf (s t .args .note))) (s t .args .rows .now) ⊎ TooShort (curveBytes (shapeOf (s t .args .note)))
+      (s t .args .curve .now) → ⊥
   long = ⊎-elim (λ h. omega (arith, room)) (λ h. omega (arith, c .if3 .left, curve-size (c .before)))
 
   -- the table from 12 on gives the number
-  after-9 : (n : ℕ) → let table = finishTable (s t .args .note) (s t .args .rows .now) (s t .args .curve .now) in First (drop 2 table) n → First table n
+  after-9 : (n : ℕ) → let table = finishTable (s t .args .note) (s t .args .rows .now) (s t .args .curve .now) in
+      First (drop 2 table) n → First table n
   after-9 n f = inr (passed t, inr (long, f))
 
 -- the rows are as a turn leaves them, or not
@@ -60,7 +63,8 @@ module _ (c : tie.After-sound) where
   ended h = omega (arith, c .before .before .if4 .left)
 
   test : Decided (c .sound .result) (AsLeft (shapeOf (s (t e) .args .note)) (s (t e) .args .note .r) (s (t e) .args .rows .now))
-  test = subst (λ (S : Shape). Decided (c .sound .result) (AsLeft S (s (t e) .args .note .r) (s (t e) .args .rows .now))) (e .before .before .before .before .of .ensures) (c .sound .ensures)
+  test = subst (λ (S : Shape). Decided (c .sound .result) (AsLeft S (s (t e) .args .note .r) (s (t e) .args .rows .now)))
+      (e .before .before .before .before .of .ensures) (c .sound .ensures)
 
 bad-note-requires : tie.Need-bad-note-requires
 bad-note-requires c κs = search needs
@@ -95,8 +99,13 @@ cast-sound c = search needs
 sound-requires : tie.Need-sound-requires
 sound-requires c κs =
     let d = c .before .before .before .before in
-    let o = d .before .before .before .before in
-    (fine o, (omega (arith, d .before .before .if2 .left, d .before .before .before .rows-bytes .ensures), omega (arith, good (o .before) .last, ap (λ (S : Shape). S .l) (o .of .ensures))))
+    let o = d .before .before .before .before in (
+      fine o,
+      (
+        omega (arith, d .before .before .if2 .left, d .before .before .before .rows-bytes .ensures),
+        omega (arith, good (o .before) .last, ap (λ (S : Shape). S .l) (o .of .ensures)),
+      ),
+    )
 
 returns-5 : tie.Need-returns-5
 returns-5 c = let d = c .before in after-9 (e d) 11 (inr (ended d, inl (test d .fails (not-true _ (c .if5 .taken)), refl)))

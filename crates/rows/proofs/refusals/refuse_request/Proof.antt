@@ -60,7 +60,11 @@ past-5 c n f = past-4 (c .before .before) n (inr (c .before .bad-heights .ensure
 past-6 : (c : tie.Else9) (n : ℕ) → First (drop 6 (table (s9 c))) n → First (table (s9 c)) n
 past-6 c n f =
     past-5 (c .before .before .before .before) n
-    (inr (⊎-elim (c .before .before .before .too-large .ensures .fails (c .before .before .if8 .left)) (c .before .too-large2 .ensures .fails (c .if9 .left)), f))
+    (inr (
+      ⊎-elim (c .before .before .before .too-large .ensures .fails (c .before .before .if8 .left)) (c .before .too-large2 .ensures .fails
+          (c .if9 .left)),
+      f,
+    ))
 
 past-7 : (c : tie.Else10) (n : ℕ) → First (drop 7 (table (s10 c))) n → First (table (s10 c)) n
 past-7 c n f = past-6 (c .before .before) n (inr (c .before .repeated .ensures .fails (c .if10 .left), f))

@@ -37,7 +37,9 @@ refuse-request-requires : tie.Need-refuse-request-requires
 refuse-request-requires c κs = search needs
 
 returns : tie.Need-returns
-returns c = first-stops 7 (table (c .before .before .before .before .before)) (c .before .refuse-request .result) (c .before .refuse-request .ensures) (c .if1 .taken)
+returns c =
+    first-stops 7 (table (c .before .before .before .before .before)) (c .before .refuse-request .result) (c .before .refuse-request .ensures)
+    (c .if1 .taken)
 
 cast-of : tie.Need-cast-of
 cast-of c = let r = accepted c in let s = r .places .size in let n = r .places .count in omega arith

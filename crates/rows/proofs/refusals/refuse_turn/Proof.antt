@@ -36,11 +36,13 @@ long : (c : tie.Else2) → let t = s (c .before .before .before) in TooShort (ro
 long c h = omega (arith, c .if2 .left, size (c .before))
 
 -- the rows are as a turn leaves them, or not
-test : (c : tie.After-sound) → let t = s (c .before .before .before .before .before) in Decided (c .sound .result) (AsLeft (shapeOf (t .args .note)) (t .args .note .r) (t .args .rows .now))
+test : (c : tie.After-sound) → let t = s (c .before .before .before .before .before) in
+    Decided (c .sound .result) (AsLeft (shapeOf (t .args .note)) (t .args .note .r) (t .args .rows .now))
 test c =
     let o = c .before .before .before .before in
     let t = s (o .before) in
-    subst (λ (S : Shape). Decided (c .sound .result) (AsLeft S (t .args .note .r) (t .args .rows .now))) {y = shapeOf (t .args .note)} (o .of .ensures) (c .sound .ensures)
+    subst (λ (S : Shape). Decided (c .sound .result) (AsLeft S (t .args .note .r) (t .args .rows .now))) {y = shapeOf (t .args .note)}
+    (o .of .ensures) (c .sound .ensures)
 
 bad-note-requires : tie.Need-bad-note-requires
 bad-note-requires c κs = search needs
@@ -63,8 +65,13 @@ cast-sound c = search needs
 sound-requires : tie.Need-sound-requires
 sound-requires c κs =
     let e = c .before in
-    let o = e .before .before in
-    (fine o, (omega (arith, e .if2 .left, e .before .rows-bytes .ensures), omega (arith, good (o .before) .last, ap (λ (S : Shape). S .l) {y = shapeOf (s (o .before) .args .note)} (o .of .ensures))))
+    let o = e .before .before in (
+      fine o,
+      (
+        omega (arith, e .if2 .left, e .before .rows-bytes .ensures),
+        omega (arith, good (o .before) .last, ap (λ (S : Shape). S .l) {y = shapeOf (s (o .before) .args .note)} (o .of .ensures)),
+      ),
+    )
 
 returns-3 : tie.Need-returns-3
 returns-3 c =

@@ -35,10 +35,13 @@ module _ (c : tie.Then1 Inv-loop μ-loop) where
   j = c .before .before .loop .j
 
   abbrev end : ℕ
-  end = s .args .i * c .before .before .before .before .curve-bytes .result + j * c .before .before .before .slot .result + c .before .before .before .slot .result
+  end =
+      s .args .i * c .before .before .before .before .curve-bytes .result + j * c .before .before .before .slot .result + c .before .before .before
+      .slot .result
 
   at : end ≡ s .args .i * curveBytes S + j * slotOf S + slotOf S
-  at = ap₂ (λ (x y : ℕ). s .args .i * x + j * y + y) (c .before .before .before .before .curve-bytes .ensures) (c .before .before .before .slot .ensures)
+  at = ap₂ (λ (x y : ℕ). s .args .i * x + j * y + y) (c .before .before .before .before .curve-bytes .ensures)
+      (c .before .before .before .slot .ensures)
 
   inside : end ≤ rowsBytes S
   inside = rw at (omega (arith, row-end S (s .pre .1), slot-end S (c .if1 .taken)))
@@ -48,14 +51,18 @@ module _ (c : tie.Then1 Inv-loop μ-loop) where
 
 -- the answer for slot j
 answer : (c : tie.After-zero-between Inv-loop μ-loop) → let n = c .before .before in
-    Decided (c .zero-between .result) (ZeroBetween (s n .args .rows .now) (s n .args .i * curveBytes (S n) + j n * slotOf (S n) + slotOf (S n) - S n .u * j n) (s n .args .i * curveBytes (S n) + j n * slotOf (S n) + slotOf (S n)))
+    Decided (c .zero-between .result)
+    (ZeroBetween (s n .args .rows .now) (s n .args .i * curveBytes (S n) + j n * slotOf (S n) + slotOf (S n) - S n .u * j n)
+    (s n .args .i * curveBytes (S n) + j n * slotOf (S n) + slotOf (S n)))
 answer c = rw (at (c .before .before)) at (c .zero-between .ensures)
 
 curve-bytes-requires : tie.Need-curve-bytes-requires Inv-loop μ-loop
 curve-bytes-requires c κs = c .before .pre .0 .fine
 
 mul-base : tie.Need-mul-base Inv-loop μ-loop
-mul-base c = rw (c .curve-bytes .ensures) (let p = c .before .before .pre in omega (arith, row-end (c .before .before .args .shape) (p .1), rows-small (p .0 .fine)))
+mul-base c =
+    rw (c .curve-bytes .ensures) (let p = c .before .before .pre in
+    omega (arith, row-end (c .before .before .args .shape) (p .1), rows-small (p .0 .fine)))
 
 slot-requires : tie.Need-slot-requires Inv-loop μ-loop
 slot-requires c κs = c .before .before .pre .0 .fine
@@ -98,7 +105,8 @@ loop-again c =
     let n = c .before .before .before in (
       omega arith,
       below-more _ _ (n .before .before .loop .inv .1)
-          (slot-light (s n .pre .0 .fine) (s n .args .rows .now) (s n .args .i) (n .if1 .taken) (answer (c .before) .holds (not-false _ (c .if2 .left)))),
+          (slot-light (s n .pre .0 .fine) (s n .args .rows .now) (s n .args .i) (n .if1 .taken)
+          (answer (c .before) .holds (not-false _ (c .if2 .left)))),
     )
 
 returns-2 : tie.Need-returns-2 Inv-loop μ-loop

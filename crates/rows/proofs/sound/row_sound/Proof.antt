@@ -58,14 +58,16 @@ module _ (c : tie.After-slot) where
   inside = rw to (row-end S (s .pre .1 .0))
 
 answer : (c : tie.After-zero-between) → let n = c .before in
-    Decided (c .zero-between .result) (ZeroBetween (s n .args .rows .now) (s n .args .i * curveBytes (S n) + top n * slotOf (S n)) (s n .args .i * curveBytes (S n) + curveBytes (S n)))
+    Decided (c .zero-between .result) (ZeroBetween (s n .args .rows .now) (s n .args .i * curveBytes (S n) + top n * slotOf (S n))
+    (s n .args .i * curveBytes (S n) + curveBytes (S n)))
 answer c = rw (from (c .before), to (c .before)) at (c .zero-between .ensures)
 
 height : (c : tie.Else2) → let n = c .before .before in Height (symbols (S n .p) .ring) (top n) (rowsOf (S n) (s n .args .rows .now) (s n .args .i))
 height c = let n = c .before .before in zero-height (s n .pre .0) (s n .pre .1 .0) (top n) (answer (c .before) .holds (not-false _ (c .if2 .left)))
 
 lead : (c : tie.Else3) → let n = c .before .before .before .before .before in
-    Lead (symbols (S n .p) .ring) (S n .u) (c .before .before .row-lead .result .weight) (c .before .before .row-lead .result .power) (rowsOf (S n) (s n .args .rows .now) (s n .args .i))
+    Lead (symbols (S n .p) .ring) (S n .u) (c .before .before .row-lead .result .weight) (c .before .before .row-lead .result .power)
+    (rowsOf (S n) (s n .args .rows .now) (s n .args .i))
 lead c = c .before .before .row-lead .ensures .lead (not-false _ (c .if3 .left))
 
 passed : (c : tie.Else3) → let n = c .before .before .before .before .before in

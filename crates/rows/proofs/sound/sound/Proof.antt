@@ -58,7 +58,8 @@ row-sound-requires c κs = let e = c .before .before .before in (bytes e, (c .if
 returns-2 : tie.Need-returns-2 Inv-loop μ-loop
 returns-2 c =
     let n = c .before .before in
-    decided-false (λ x. c .before .row-sound .ensures .fails (not-true _ (c .if3 .taken)) (sound-row (x .sound) (n .before .before .loop .i) (n .if2 .taken)))
+    decided-false (λ x. c .before .row-sound .ensures .fails (not-true _ (c .if3 .taken))
+    (sound-row (x .sound) (n .before .before .loop .i) (n .if2 .taken)))
 
 add-i : tie.Need-add-i Inv-loop μ-loop
 add-i c = search needs
@@ -74,7 +75,10 @@ loop-again c =
 returns-3 : tie.Need-returns-3 Inv-loop μ-loop
 returns-3 c =
     let l = c .before .before in
-    decided-true (record { below = answer (l .before .before) .fails (l .before .if1 .left); sound = row-sound (λ i h. l .loop .inv .1 i (omega arith)) })
+    decided-true (record {
+      below = answer (l .before .before) .fails (l .before .if1 .left);
+      sound = row-sound (λ i h. l .loop .inv .1 i (omega arith));
+    })
 
 pub sound-spec : {M : Type 1} → statement M
 sound-spec =

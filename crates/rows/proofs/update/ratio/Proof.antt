@@ -54,7 +54,9 @@ product-requires c κs =
 returns : tie.Need-returns
 returns c =
     let x = c .before .before .before .before .before .before .before .before .pre in
-    c .product .ensures ∙ rw (c .before .inverse .ensures, c .before .before .before .place2 .ensures, c .before .before .before .before .before .place .ensures) (ratio-byte x)
+    c .product .ensures ∙ rw
+    (c .before .inverse .ensures, c .before .before .before .place2 .ensures, c .before .before .before .before .before .place .ensures)
+    (ratio-byte x)
 
 pub ratio-spec : {M : Type 1} → statement M
 ratio-spec =

@@ -14,7 +14,8 @@ use Rattle.rows.proofs.update.slot_vanishes.Tie as tie
 
 abbrev Inv-loop : tie.InvT-loop
 Inv-loop rows shape a up b down c p e₀ e =
-    (e ≤ suc (shape .width)) × ((i : ℕ) → i < e → minusBytes (shape .p) (delayedByte rows a up i) (timesBytes (shape .p) (c .value) (delayedByte rows b down i)) ≡ 0)
+    (e ≤ suc (shape .width))
+    × ((i : ℕ) → i < e → minusBytes (shape .p) (delayedByte rows a up i) (timesBytes (shape .p) (c .value) (delayedByte rows b down i)) ≡ 0)
 
 abbrev μ-loop : tie.MeasureT-loop
 μ-loop rows shape a up b down c p e₀ e = suc (shape .width) - e
@@ -24,7 +25,8 @@ found : (c : tie.After-difference Inv-loop μ-loop) → let t = c .before .befor
     c .difference .result .value
     ≡ minusBytes (s .args .shape .p) (delayedByte (s .args .rows .now) (s .args .a) (s .args .up) (t .before .before .loop .e))
     (timesBytes (s .args .shape .p) (s .args .c .value) (delayedByte (s .args .rows .now) (s .args .b) (s .args .down) (t .before .before .loop .e)))
-found c = c .difference .ensures ∙ rw (c .before .product .ensures, c .before .before .delayed2 .ensures, c .before .before .before .delayed .ensures)
+found c =
+    c .difference .ensures ∙ rw (c .before .product .ensures, c .before .before .delayed2 .ensures, c .before .before .before .delayed .ensures)
 
 loop-holds : tie.Need-loop-holds Inv-loop μ-loop
 loop-holds c = (omega arith, λ i h. absurd (omega arith))
@@ -53,7 +55,9 @@ difference-requires c κs =
     let p = s .pre in
     record {
       size = p .fine .size;
-      left = rw (c .before .before .delayed .ensures) (delayed-below (p .fine .size) (p .first) (s .args .up) (t .before .before .loop .e) (omega arith));
+      left =
+          rw (c .before .before .delayed .ensures)
+          (delayed-below (p .fine .size) (p .first) (s .args .up) (t .before .before .loop .e) (omega arith));
       right = rw (c .product .ensures) (timesBytes-below (p .fine .size) _ _);
     }
 

@@ -9,7 +9,8 @@ use Rattle.rows.specs.Bytes.{curveBytes}
 use Rattle.rows.specs.Work.{Crosses}
 use Rattle.rows.proofs.Placing.{rows-small}
 use Rattle.rows.proofs.update.CrossedRows.{crosses-w, crosses-v, ratio-below}
-use Rattle.rows.proofs.update.Updating.{row-in, width-in, asks-subtract, asks-swap, asks-scale, asks-exchanged, subtract-leaves, exchange-leaves}
+use Rattle.rows.proofs.update.Updating.{row-in, width-in, asks-subtract, asks-swap, asks-scale, asks-exchanged, subtract-leaves}
+use Rattle.rows.proofs.update.Updating.{exchange-leaves}
 use Rattle.rows.proofs.update.update.Statement.{statement}
 use Rattle.rows.proofs.update.update.Tie as tie
 
@@ -72,20 +73,24 @@ scale-requires c κs =
     asks-scale (x a) (is a) (w .swap .ensures) (rw (c .negative .ensures) (negByte-below (x a .bytes .fine .size) _))
 
 add-subtract-2 : tie.Need-add-subtract-2
-add-subtract-2 c = let a = c .before .before .before .before .before .before .before .before .before .before .before in omega (arith, small-r a, crosses-v (x a), width-in (x a) (is a))
+add-subtract-2 c = let a = c .before .before .before .before .before .before .before .before .before .before .before in
+    omega (arith, small-r a, crosses-v (x a), width-in (x a) (is a))
 
 sub-subtract-2 : tie.Need-sub-subtract-2
-sub-subtract-2 c = let a = c .before .before .before .before .before .before .before .before .before .before .before in omega (arith, crosses-v (x a), width-in (x a) (is a))
+sub-subtract-2 c = let a = c .before .before .before .before .before .before .before .before .before .before .before in
+    omega (arith, crosses-v (x a), width-in (x a) (is a))
 
 negative-requires-2 : tie.Need-negative-requires-2
-negative-requires-2 c κs = let a = c .before .before .before .before .before .before .before .before .before .before .before in record { size = x a .bytes .fine .size; below = omega (arith, x a .bytes .fine .size) }
+negative-requires-2 c κs = let a = c .before .before .before .before .before .before .before .before .before .before .before in
+    record { size = x a .bytes .fine .size; below = omega (arith, x a .bytes .fine .size) }
 
 subtract-requires-2 : tie.Need-subtract-requires-2
 subtract-requires-2 c κs =
     let n = c .before .before .before .before in
     let w = n .before .before .before .before .before in
     let a = w .before .before .before in
-    asks-exchanged (x a) (is a) (w .swap .ensures) (n .before .negative .result .value) (n .scale .ensures) (rw (c .negative2 .ensures) (negByte-below (x a .bytes .fine .size) _))
+    asks-exchanged (x a) (is a) (w .swap .ensures) (n .before .negative .result .value) (n .scale .ensures)
+    (rw (c .negative2 .ensures) (negByte-below (x a .bytes .fine .size) _))
 
 returns : tie.Need-returns
 returns c =
@@ -103,7 +108,8 @@ returns-2 c =
     let n = m .before .before .before .before .before in
     let w = n .before .before .before .before .before in
     let a = w .before .before .before in
-    exchange-leaves (x a) (is a) (w .swap .ensures) (w .before .before .if1 .left) (a .ratio .result .value) (n .before .negative .result .value) (m .before .negative2 .result .value) (a .ratio .ensures)
+    exchange-leaves (x a) (is a) (w .swap .ensures) (w .before .before .if1 .left) (a .ratio .result .value) (n .before .negative .result .value)
+    (m .before .negative2 .result .value) (a .ratio .ensures)
     (n .before .negative .ensures) (m .before .negative2 .ensures) (n .scale .ensures) (m .subtract2 .ensures)
 
 same-length-2 : tie.Need-same-length-2

@@ -22,7 +22,9 @@ abbrev Inv-loop : tie.InvT-loop
 Inv-loop rows shape r w s v c up down curve slot j₀ j =
     (j ≤ suc (shape .l))
     × ((t : ℕ) → t < j → (e : ℕ) → e ≤ shape .width
-    → cross (symbols (shape .p) .ring) (v - w) (rowsOf shape rows r) (ratioOf (symbols (shape .p)) (shape .u) s w v (rowsOf shape rows r) (rowsOf shape rows s)) (w - v) (rowsOf shape rows s) t e ≡ symbol (shape .p) 0)
+    → cross (symbols (shape .p) .ring) (v - w) (rowsOf shape rows r)
+    (ratioOf (symbols (shape .p)) (shape .u) s w v (rowsOf shape rows r) (rowsOf shape rows s)) (w - v) (rowsOf shape rows s) t e
+    ≡ symbol (shape .p) 0)
 
 abbrev μ-loop : tie.MeasureT-loop
 μ-loop rows shape r w s v c up down curve slot j₀ j = suc (shape .l) - j
@@ -95,7 +97,8 @@ answer : (c : tie.After-slot-vanishes Inv-loop μ-loop) → let n = c .before in
 answer c =
     let n = c .before in
     let e = n .before .before .before .before .before in
-    vanishing-is (s n .pre) (j n) (e .before .before .ratio .ensures) (at-is n (s n .args .r)) (e .before .beyond .ensures) (at-is n (s n .args .s)) (e .beyond2 .ensures) (c .slot-vanishes .ensures)
+    vanishing-is (s n .pre) (j n) (e .before .before .ratio .ensures) (at-is n (s n .args .r)) (e .before .beyond .ensures) (at-is n (s n .args .s))
+    (e .beyond2 .ensures) (c .slot-vanishes .ensures)
 
 returns : tie.Need-returns Inv-loop μ-loop
 returns c =
@@ -110,8 +113,11 @@ loop-less c = search needs
 
 loop-again : tie.Need-loop-again Inv-loop μ-loop
 loop-again c =
-    let n = c .before .before in
-    (omega arith, below-more _ _ (n .before .before .loop .inv .1) (slot-zero (s n .pre) (n .if1 .taken) (answer (c .before) .holds (not-false _ (c .if2 .left)))))
+    let n = c .before .before in (
+      omega arith,
+      below-more _ _ (n .before .before .loop .inv .1) (slot-zero (s n .pre) (n .if1 .taken)
+          (answer (c .before) .holds (not-false _ (c .if2 .left)))),
+    )
 
 returns-2 : tie.Need-returns-2 Inv-loop μ-loop
 returns-2 c =

@@ -26,7 +26,8 @@ returns c =
     let b = s .before in
     let a = b .before .before .before .before .args in
     record {
-      holds = λ _. stands (a .key .now) (a .text .now) (a .at) (b .before .begins .ensures .holds (b .if1 .taken)) (s .seek .ensures) (c .if2 .taken);
+      holds =
+          λ _. stands (a .key .now) (a .text .now) (a .at) (b .before .begins .ensures .holds (b .if1 .taken)) (s .seek .ensures) (c .if2 .taken);
       fails = λ e. absurd (true≢false e);
     }
 
@@ -37,7 +38,8 @@ returns-2 c =
     let a = b .before .before .before .before .args in
     record {
       holds = λ e. absurd (false≢true e);
-      fails = λ _. stands-not (a .key .now) (a .text .now) (a .at) (b .before .begins .ensures .holds (b .if1 .taken)) (s .seek .ensures) (c .if2 .left);
+      fails = λ _. stands-not (a .key .now) (a .text .now) (a .at) (b .before .begins .ensures .holds (b .if1 .taken)) (s .seek .ensures)
+          (c .if2 .left);
     }
 
 returns-3 : tie.Need-returns-3

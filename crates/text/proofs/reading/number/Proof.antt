@@ -1,4 +1,5 @@
--- `text::reading::number` meets its contract. The loop's invariant: the bytes passed are digits, and `value` is what they write, below 10 to the power of their count.
+-- `text::reading::number` meets its contract. The loop's invariant: the bytes passed are digits, and `value` is what they write, below 10 to the
+-- power of their count.
 use mathlib.Core.Path.{_≡_, refl, sym, _∙_}
 use mathlib.Core.Logic.{⊎-elim}
 use mathlib.Core.Bool.{false, false≢true, true≢false}
@@ -17,7 +18,8 @@ use Rattle.text.proofs.reading.number.Statement.{statement}
 use Rattle.text.proofs.reading.number.Tie as tie
 
 abbrev Inv-loop : tie.InvT-loop
-Inv-loop text value₀ i₀ value i = (i ≤ length text) × (value < 10 ^ i) × (value ≡ written text i) × ((k : ℕ) → k < i → (48 ≤ getD text k 0) × (getD text k 0 ≤ 57))
+Inv-loop text value₀ i₀ value i =
+    (i ≤ length text) × (value < 10 ^ i) × (value ≡ written text i) × ((k : ℕ) → k < i → (48 ≤ getD text k 0) × (getD text k 0 ≤ 57))
 
 abbrev μ-loop : tie.MeasureT-loop
 μ-loop text value₀ i₀ value i = length text - i
@@ -30,7 +32,8 @@ none f = record { holds = λ e. absurd (false≢true e); fails = λ _. f }
 low : (i value : ℕ) → i < 3 → value < 10 ^ i → value < 100
 low i value h k = omega (arith, pow-le-pow-right {n = 10} (omega arith) {i = i} {j = 2} (omega arith))
 
-whole : (c : tie.After-loop Inv-loop μ-loop) → let text = c .before .before .before .before .args .text .now in c .before .loop .value ≡ written text (length text)
+whole : (c : tie.After-loop Inv-loop μ-loop) → let text =
+    c .before .before .before .before .args .text .now in c .before .loop .value ≡ written text (length text)
 whole c =
     let n : c .before .loop .i ≡ length (c .before .before .before .before .args .text .now) = omega arith in
     rw n at (c .before .loop .inv .2)
@@ -51,7 +54,8 @@ shared-slice-read-b c = search needs
 returns-2 : tie.Need-returns-2 Inv-loop μ-loop
 returns-2 c =
     let l = c .before .before in
-    none (λ n r. let d = r .digits (l .before .loop .i) (l .loop-test .taken) in ⊎-elim (λ w. omega arith) (λ w. omega (arith, ltb-true)) (c .if3 .came))
+    none (λ n r. let d = r .digits (l .before .loop .i) (l .loop-test .taken) in
+    ⊎-elim (λ w. omega arith) (λ w. omega (arith, ltb-true)) (c .if3 .came))
 
 mul-value : tie.Need-mul-value Inv-loop μ-loop
 mul-value c = omega (arith, value-low (c .before .before .before))

@@ -53,7 +53,8 @@ returns-2 c =
     let n = c .before .before .before in
     let k = n .before .before in
     let l = k .before .before in
-    last-item (l .loop .inv) (k .seek .ensures) (n .number .result .value) (k .before .loop-test .taken) (omega arith) (n .number .ensures .holds (not-false _ (c .before .if1 .left)))
+    last-item (l .loop .inv) (k .seek .ensures) (n .number .result .value) (k .before .loop-test .taken) (omega arith)
+    (n .number .ensures .holds (not-false _ (c .before .if1 .left)))
 
 add-at : tie.Need-add-at Inv-loop μ-loop
 add-at c = search needs
@@ -66,7 +67,8 @@ loop-again c =
     let n = c .before .before .before in
     let k = n .before .before in
     let l = k .before .before in
-    more-items (l .loop .inv) (k .seek .ensures) (n .number .result .value) (k .before .loop-test .taken) (omega arith) (n .number .ensures .holds (not-false _ (c .before .if1 .left)))
+    more-items (l .loop .inv) (k .seek .ensures) (n .number .result .value) (k .before .loop-test .taken) (omega arith)
+    (n .number .ensures .holds (not-false _ (c .before .if1 .left)))
 
 returns-3 : tie.Need-returns-3 Inv-loop μ-loop
 returns-3 c = too-many (c .before .loop .inv) (c .loop-test .left)

@@ -17,7 +17,8 @@ line-at-requires : tie.Need-line-at-requires
 line-at-requires c κs = search needs
 
 returns : tie.Need-returns
-returns c = record { takes = takes-none _ 0 (c .before .before .line-at .ensures .fails (not-true _ (c .if1 .taken))); kept = λ e. absurd (false≢true e) }
+returns c =
+    record { takes = takes-none _ 0 (c .before .before .line-at .ensures .fails (not-true _ (c .if1 .taken))); kept = λ e. absurd (false≢true e) }
 
 sub-numbers : tie.Need-sub-numbers
 sub-numbers c = let s = stands c in omega arith

@@ -34,7 +34,9 @@ add-next : tie.Need-add-next
 add-next c = let s = stands (c .before .before) in omega arith
 
 returns-2 : tie.Need-returns-2
-returns-2 c = takes (optional-plain (c .before .before .before .before .before .before .before .args .other)) (stands (c .before .before)) (c .optional .ensures)
+returns-2 c =
+    takes (optional-plain (c .before .before .before .before .before .before .before .args .other)) (stands (c .before .before))
+    (c .optional .ensures)
 
 pub optional-line-spec : {M : Type 1} → statement M
 optional-line-spec =

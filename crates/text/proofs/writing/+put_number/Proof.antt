@@ -25,7 +25,8 @@ put-number-below t =
     and 1 put-number-kinds.ps (falls 1 put-number-kinds.ps _<_ μ-put-number t) put-number.Pre
 
 -- what a call asks and gives, below t
-abbrev calls : ℕ → In 1 put-number-lts.ps·0 × Out 1 put-number-lts.ps·0 put-number-lts.r·0 × In 1 put-number-lts.ps·1 × Out 1 put-number-lts.ps·1 put-number-lts.r·1
+abbrev calls : ℕ → In 1 put-number-lts.ps·0 × Out 1 put-number-lts.ps·0 put-number-lts.r·0 × In 1 put-number-lts.ps·1
+    × Out 1 put-number-lts.ps·1 put-number-lts.r·1
 calls t = (put-byte-reads.Asked, put-byte-reads.Learnt, put-number-below t, put-number.Post)
 
 put-number-cast-put-byte : (t : ℕ) → put-number-lts.Need-cast-put-byte (calls t) (put-number-at t) put-number.Post
@@ -65,7 +66,8 @@ put-number-same-length-2 t c = search needs
 put-number-returns-2 : (t : ℕ) → put-number-lts.Need-returns-2 (calls t) (put-number-at t) put-number.Post
 put-number-returns-2 t c =
     let d = c .before .before .before .before .before .before in
-    put-high (d .before .before .if1 .left) (d .before .before .before .before .fits .n .fits) (d .put-number .ensures) (c .before .before .put-byte2 .ensures)
+    put-high (d .before .before .if1 .left) (d .before .before .before .before .fits .n .fits) (d .put-number .ensures)
+    (c .before .before .put-byte2 .ensures)
 
 pub +put-number-spec : {M : Type 1} → statement M
 +put-number-spec = close μ-put-number λ t. put-number-lts.spec

@@ -43,7 +43,8 @@ loop-again c =
     let i = l .loop .i in
     let a = l .before .args in
     let v = getD (a .text .now) i 0 in
-    let longer : take (i + 1) (a .text .now) ≡ take i (a .text .now) ++ v ∷ [] = rw (add-one, take-suc (a .text .now) i 0 (c .before .loop-test .taken)) in
+    let longer : take (i + 1) (a .text .now) ≡ take i (a .text .now) ++ v ∷ [] =
+    rw (add-one, take-suc (a .text .now) i 0 (c .before .loop-test .taken)) in
     let next : a .at + (i + 1) ≡ a .at + i + 1 = omega arith in
     (omega arith, rw (longer, next) (put-join (l .loop .inv .1) (put-one (l .loop .out) (a .at + i) v (omega (arith, put-long (l .loop .inv .1))))))
 

@@ -22,7 +22,8 @@ abbrev μ-loop : tie.MeasureT-loop
 one-more : (i count w : ℕ) → i < count → i * w + w ≤ count * w
 one-more i count w h = omega (arith, mul-le-mul-right w h)
 
-inside : (c : tie.In-loop Inv-loop μ-loop) → let a = c .before .before .before .before .args in c .before .loop .i * a .k + a .k ≤ length (a .messages .now)
+inside : (c : tie.In-loop Inv-loop μ-loop) → let a =
+    c .before .before .before .before .args in c .before .loop .i * a .k + a .k ≤ length (a .messages .now)
 inside c =
     let s = c .before .before .before .before in
     omega (arith, one-more (c .before .loop .i) (s .args .count) (s .args .k) (c .loop-test .taken), s .pre .1)
@@ -52,7 +53,14 @@ put-message-requires c κs =
     let a = d .before .before .before .before .args in
     let i = d .before .loop .i in
     let p = d .before .loop .inv .1 in
-    omega (arith, p .short, p .ends, put-long p, part-long (i * a .k) (i * a .k + a .k) (a .messages .now) (inside d), one-more i (a .count) (9 + 6 * a .k) (d .loop-test .taken))
+    omega (
+      arith,
+      p .short,
+      p .ends,
+      put-long p,
+      part-long (i * a .k) (i * a .k + a .k) (a .messages .now) (inside d),
+      one-more i (a .count) (9 + 6 * a .k) (d .loop-test .taken),
+    )
 
 add-i : tie.Need-add-i Inv-loop μ-loop
 add-i c = search needs
@@ -63,8 +71,11 @@ loop-less c = search needs
 loop-again : tie.Need-loop-again Inv-loop μ-loop
 loop-again c =
     let d = c .before .before .before .before .before in
-    let a = d .before .before .before .before .args in
-    (omega arith, put-more (d .before .loop .i) (a .k) (a .messages .now) (inside d) (d .before .loop .inv .1) (c .before .before .put-message .ensures))
+    let a = d .before .before .before .before .args in (
+      omega arith,
+      put-more (d .before .loop .i) (a .k) (a .messages .now) (inside d) (d .before .loop .inv .1)
+          (c .before .before .put-message .ensures),
+    )
 
 same-length : tie.Need-same-length Inv-loop μ-loop
 same-length c = put-long (c .before .loop .inv .1)

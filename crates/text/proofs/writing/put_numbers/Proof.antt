@@ -35,7 +35,11 @@ loop-less c = search needs
 
 loop-again : tie.Need-loop-again Inv-loop μ-loop
 unfolding joined
-loop-again c = (omega arith, rw add-one (put-bound (put-join (c .before .before .before .before .before .before .loop .inv .1) (c .before .before .put-item .ensures)) (omega arith)))
+loop-again c = (
+  omega arith,
+  rw add-one (put-bound
+      (put-join (c .before .before .before .before .before .before .loop .inv .1) (c .before .before .put-item .ensures)) (omega arith)),
+)
 
 same-length : tie.Need-same-length Inv-loop μ-loop
 same-length c = put-long (c .before .loop .inv .1)
