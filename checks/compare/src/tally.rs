@@ -1,0 +1,172 @@
+//! What was compared, counted.
+
+use second::cases::{Answer, Call, Case};
+use second::limits::HEIGHT_MOST;
+use second::{Note, Request};
+use std::collections::BTreeSet;
+
+#[derive(Clone, Copy, PartialEq, Eq)]
+pub enum Job {
+    Encode,
+    Start,
+    Turn,
+    Finish,
+    List,
+    Program,
+}
+
+/// The names of the values that a call is about, in the order of [`Values`].
+pub const VALUES: [&str; 6] = ["p", "n", "k", "m", "l", "t"];
+
+/// None where the job has no such value.
+type Values = [Option<u8>; VALUES.len()];
+
+#[derive(Default)]
+pub struct JobTally {
+    pub calls: usize,
+    pub words: usize,
+    pub numbers: [usize; 15],
+    /// Of the calls with number 11, those that made updates.
+    pub late: usize,
+    /// The values met in calls that were answered with 0.
+    pub met: [BTreeSet<u8>; VALUES.len()],
+    /// Whether the last start gave a word that this job has not been called on.
+    awaited: bool,
+}
+
+#[derive(Default)]
+pub struct Tally {
+    jobs: [JobTally; 6],
+    /// Lists that were answered with 0, by the number of their messages.
+    pub lists: [usize; HEIGHT_MOST as usize + 1],
+}
+
+struct Seen {
+    job: Job,
+    number: u8,
+    updates: u32,
+    values: Values,
+}
+
+impl Tally {
+    pub fn of(&self, job: Job) -> &JobTally {
+        &self.jobs[job as usize]
+    }
+
+    pub fn calls(&self) -> usize {
+        self.jobs.iter().map(|job| job.calls).sum()
+    }
+
+    /// Counts a case that does not differ, with the note that turn and finish were given.
+    pub fn count(&mut self, case: &Case, note: Note) {
+        if let Some(seen) = seen(case, note) {
+            self.add(&seen);
+        }
+        if let Answer::List {
+            listed: (0, count, ..),
+            ..
+        } = case.answer
+        {
+            self.lists[usize::from(count)] += 1;
+        }
+    }
+
+    fn add(&mut self, seen: &Seen) {
+        let started = seen.job == Job::Start && seen.number == 0;
+        for job in [Job::Turn, Job::Finish] {
+            self.jobs[job as usize].awaited |= started;
+        }
+        self.jobs[seen.job as usize].add(seen);
+    }
+}
+
+impl JobTally {
+    fn add(&mut self, seen: &Seen) {
+        let own_word = !matches!(seen.job, Job::Turn | Job::Finish);
+        self.words += usize::from(own_word || self.awaited);
+        self.awaited = false;
+        self.calls += 1;
+        self.numbers[usize::from(seen.number)] += 1;
+        self.late += usize::from(seen.number == 11 && seen.updates > 0);
+        if seen.number == 0 {
+            for (met, value) in self.met.iter_mut().zip(seen.values) {
+                met.extend(value);
+            }
+        }
+    }
+}
+
+fn seen(case: &Case, note: Note) -> Option<Seen> {
+    let (job, number, updates) = match &case.answer {
+        Answer::Encode { number, .. } => (Job::Encode, *number, 0),
+        Answer::Start { number, .. } => (Job::Start, *number, 0),
+        Answer::Turn {
+            number, updates, ..
+        } => (Job::Turn, *number, *updates),
+        Answer::Finish { number, .. } => (Job::Finish, *number, 0),
+        Answer::List { listed, .. } => (Job::List, listed.0, 0),
+        Answer::Program { text } => (Job::Program, answer(text), 0),
+        Answer::Change => return None,
+    };
+    Some(Seen {
+        job,
+        number,
+        updates,
+        values: values(&case.call, note),
+    })
+}
+
+fn values(call: &Call, note: Note) -> Values {
+    match call {
+        Call::Encode {
+            p, points, message, ..
+        } => {
+            let (n, k) = (points.len() as u8, message.len() as u8);
+            [Some(*p), Some(n), Some(k), None, None, None]
+        }
+        Call::Start { request, .. } => asked(request, None),
+        Call::Turn { .. } | Call::Finish { .. } => {
+            let Note { p, n, k, m, l, .. } = note;
+            [Some(p), Some(n), Some(k), Some(m), Some(l), None]
+        }
+        Call::List { request, t, .. } => asked(request, Some(*t)),
+        Call::Program { text } => read(&String::from_utf8_lossy(text)),
+        Call::Change { .. } => Values::default(),
+    }
+}
+
+fn asked(request: &Request, t: Option<u8>) -> Values {
+    let Request {
+        p, points, k, m, l, ..
+    } = request;
+    let n = points.len() as u8;
+    [Some(*p), Some(n), Some(*k), Some(*m), Some(*l), t]
+}
+
+/// The values in a text that the program can read.
+fn read(text: &str) -> Values {
+    let lines: Vec<&str> = text
+        .lines()
+        .filter_map(|line| line.split_once('='))
+        .map(|(_, value)| value)
+        .collect();
+    let [p, k, m, l, t, points, _] = lines[..] else {
+        return Values::default();
+    };
+    let number = |digits: &str| digits.parse().ok();
+    let m = number(m).or(Some(1));
+    let n = points.split(',').count() as u8;
+    let l = number(l).or(m);
+    [number(p), Some(n), number(k), m, l, number(t)]
+}
+
+/// The number on the first line that the program prints.
+fn answer(text: &[u8]) -> u8 {
+    let text = String::from_utf8_lossy(text);
+    let line = text
+        .lines()
+        .next()
+        .and_then(|line| line.strip_prefix("answer="));
+    line.and_then(|number| number.parse().ok())
+        .expect("the second program prints an answer")
+}

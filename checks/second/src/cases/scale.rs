@@ -1,0 +1,83 @@
+//! How large the cases are.
+
+use crate::field::FIELDS;
+use crate::limits::{FIELD_MOST, HEIGHT_MOST, MULTIPLICITY_MOST};
+use crate::random::Random;
+use crate::request::Request;
+use crate::sample;
+
+#[derive(Clone, Copy, PartialEq, Eq, Debug)]
+pub enum Scale {
+    /// For files that are kept: mostly small numbers, and few bytes of the rows altered at a time.
+    Kept,
+    /// For comparing in memory: any numbers, and any rows.
+    Wide,
+}
+
+impl Scale {
+    /// A request that no job refuses; the largest rooms are in each scale, once in eight times.
+    pub(super) fn request(self, random: &mut Random) -> Request {
+        match (random.below(8), self) {
+            (0, _) => largest(random),
+            (1..=3, Scale::Kept) => small(random, 10, 3, 5),
+            (4 | 5, Scale::Kept) => small(random, 5, 2, 3),
+            (_, Scale::Kept) => evenly(random),
+            (1, Scale::Wide) => crowded(random),
+            _ => sample::request(random),
+        }
+    }
+
+    /// The kinds of faults; the last, lengths that no byte holds, is not for files.
+    pub(super) fn faults(self) -> usize {
+        match self {
+            Scale::Kept => 10,
+            Scale::Wide => 11,
+        }
+    }
+
+    /// The most bytes of the rows that are altered between two calls.
+    pub(super) fn most_changes(self) -> usize {
+        match self {
+            Scale::Kept => 56,
+            Scale::Wide => usize::MAX,
+        }
+    }
+}
+
+fn largest(random: &mut Random) -> Request {
+    let n = usize::from(FIELD_MOST);
+    let k = random.between(2, n - 1);
+    let (m, l) = (MULTIPLICITY_MOST.into(), HEIGHT_MOST.into());
+    sample::with_numbers(random, FIELD_MOST, n, k, m, l)
+}
+
+/// Every n as often as any other, so that few requests meet them all.
+fn evenly(random: &mut Random) -> Request {
+    let n = random.between(3, FIELD_MOST.into());
+    let fields: Vec<u8> = FIELDS
+        .into_iter()
+        .filter(|&p| usize::from(p) >= n)
+        .collect();
+    let p = random.pick(&fields);
+    let k = random.between(2, n - 1);
+    let m = random.between(1, MULTIPLICITY_MOST.into());
+    let l = random.between(m, HEIGHT_MOST.into());
+    sample::with_numbers(random, p, n, k, m, l)
+}
+
+/// Short messages at all points of a small field: lists are longest there.
+fn crowded(random: &mut Random) -> Request {
+    let p = random.pick(&[5, 7, 11, 13]);
+    let k = random.between(2, 3);
+    let m = random.between(2, MULTIPLICITY_MOST.into());
+    sample::with_numbers(random, p, p.into(), k, m, HEIGHT_MOST.into())
+}
+
+fn small(random: &mut Random, most_n: usize, most_m: usize, most_l: usize) -> Request {
+    let p = random.pick(&FIELDS);
+    let n = random.between(3, most_n.min(p.into()));
+    let k = random.between(2, n - 1);
+    let m = random.between(1, most_m);
+    let l = random.between(m, most_l);
+    sample::with_numbers(random, p, n, k, m, l)
+}
