@@ -1,13 +1,14 @@
 /* How the work of an interpolation grows: updates against the formula, time per update against l, m and the width W, time to the end against the
    allowance, and the symbols that updates rewrite in a second against a bare loop over memory. Words are by chance in every symbol. */
 #include "programs.h"
+#include "table.h"
 #include <stdio.h>
 #include <stdlib.h>
 #include <string.h>
 
-enum { P = 31, WORDS = 8, ROUNDS = 15 };
+enum { WORDS = 8, ROUNDS = 15 };
 
-/* Document 01: (n-k) times the sum of r r for r = 1 to m, plus (n-k) m times the sum of r for r = m+1 to l. */
+/* docs/RULES.md: (n-k) times the sum of r r for r = 1 to m, plus (n-k) m times the sum of r for r = m+1 to l. */
 static int formula(const request *q) {
     int sum = 0;
     for (int r = 1; r <= q->l; r++) sum += r <= q->m ? r * r : q->m * r;
@@ -21,7 +22,7 @@ typedef struct {
 
 static grown grow(int n, int k, int m, int l, request *q) {
     static side started, ended;
-    grown g = {65536, 0, 0, 0, 0};
+    grown g = {PLUCK_UPDATES_MOST, 0, 0, 0, 0};
     memset(&started, 0, sizeof started);
     for (int i = 0; i < WORDS; i++) {
         *q = any_request(P, n, k, m, l, 1, 0);
@@ -39,19 +40,21 @@ static grown grow(int n, int k, int m, int l, request *q) {
     return g;
 }
 
-static void head(void) {
-    printf("|  n |  k | m | l |   W | formula | least | mean | most | most/formula | row bytes | ns an update | ns a symbol | library/plain |\n");
-    printf("|---:|---:|---:|---:|---:|---:|---:|---:|---:|---:|---:|---:|---:|---:|\n");
-}
+static const column GROWTH_COLUMNS[] = {
+    {" n", 0},           {" k", 0},        {"m", 0},            {"l", 0},           {"  W", 0},
+    {"formula", 0},      {"least", 0},     {"mean", 0},         {"most", 0},
+    {"most/formula", 2}, {"row bytes", 0}, {"ns an update", 1}, {"ns a symbol", 3}, {"library/plain", 2},
+};
+static const table GROWTH = {NULL, sizeof GROWTH_COLUMNS / sizeof *GROWTH_COLUMNS, GROWTH_COLUMNS};
 
+/* A row of the table; nanoseconds a symbol. */
 static double line(int n, int k, int m, int l) {
     request q;
     grown g = grow(n, k, m, l, &q);
-    int bytes = PLUCK_CURVE_BYTES(n, k, m, l);
-    double update = g.library / g.updates;
-    printf("| %2d | %2d | %d | %d | %3d | %7d | %5d | %4.0f | %4d | %12.2f | %9d | %12.1f | %11.3f | %13.2f |\n", n, k, m, l, PLUCK_W(n, k, m, l), formula(&q), g.least,
-           g.updates / WORDS, g.most, (double)g.most / formula(&q), bytes, update, update / bytes, g.library / g.plain);
-    fflush(stdout);
+    double bound = formula(&q), bytes = PLUCK_CURVE_BYTES(n, k, m, l), update = g.library / g.updates;
+    print_row(&GROWTH, NULL,
+              (double[]){n, k, m, l, PLUCK_W(n, k, m, l), bound, g.least, g.updates / WORDS, g.most, g.most / bound, bytes, update, update / bytes,
+                         g.library / g.plain});
     return update / bytes;
 }
 
@@ -78,16 +81,18 @@ static double in_turns(const side *started, int allowance, int *turns) {
 /* A turn tests all rows at its entry, so many short ones cost more than a long one. */
 static void by_allowance(void) {
     static const int ALLOWANCES[] = {1, 10, 50, 250, 4000};
+    static const column COLUMNS[] = {{"allowance", 0}, {"turns", 0}, {"us to the end", 0}, {"us a turn", 1}};
+    static const table BY_ALLOWANCE = {NULL, 4, COLUMNS};
     static side started;
-    request q = any_request(P, 31, 6, 4, 8, 1, 0);
+    request q = any_request(P, N, K, M, L, 1, 0);
     any_word(&q);
     memset(&started, 0, sizeof started);
     run(LIBRARY, START, &q, &started);
-    printf("| allowance | turns | us to the end | us a turn |\n|---:|---:|---:|---:|\n");
+    print_head(&BY_ALLOWANCE);
     for (size_t i = 0; i < sizeof ALLOWANCES / sizeof *ALLOWANCES; i++) {
         int turns;
         double ns = in_turns(&started, ALLOWANCES[i], &turns);
-        printf("| %9d | %5d | %13.0f | %9.1f |\n", ALLOWANCES[i], turns, ns / 1000, ns / 1000 / turns);
+        print_row(&BY_ALLOWANCE, NULL, (double[]){ALLOWANCES[i], turns, ns / 1000, ns / 1000 / turns});
     }
 }
 
@@ -113,23 +118,23 @@ static double bare_loop(size_t row) {
 
 int main(void) {
     printf("### Against l\n\n");
-    head();
-    for (int l = 4; l <= 8; l++) line(31, 6, 4, l);
+    print_head(&GROWTH);
+    for (int l = M; l <= L; l++) line(N, K, M, l);
     printf("\n### Against m\n\n");
-    head();
-    for (int m = 1; m <= 4; m++) line(31, 6, m, 8);
+    print_head(&GROWTH);
+    for (int m = 1; m <= M; m++) line(N, K, m, L);
     printf("\n### Against W, by n\n\n");
-    head();
-    for (int n = 7; n <= 31; n += 6) line(n, 6, 4, 8);
+    print_head(&GROWTH);
+    for (int n = K + 1; n <= N; n += 6) line(n, K, M, L);
     printf("\n### Against W, by k\n\n");
-    head();
-    for (int k = 2; k <= 30; k += 7) line(31, k, 4, 8);
-    printf("\n### Against the allowance\n\nField 31, n = 31, k = 6, m = 4, l = 8, one word by chance.\n\n");
+    print_head(&GROWTH);
+    for (int k = 2; k < N; k += 7) line(N, k, M, L);
+    printf("\n### Against the allowance\n\nField %d, n = %d, k = %d, m = %d, l = %d, one word by chance.\n\n", P, N, K, M, L);
     by_allowance();
     printf("\n### Symbols a second\n\n");
-    head();
-    double symbol = line(31, 6, 4, 8), byte = bare_loop(PLUCK_CURVE_BYTES(31, 6, 4, 8));
-    printf("\nUpdates rewrite %.0f million symbols a second, a bare loop that adds one row to another %.0f million bytes: ratio=%.3f\n\n", 1e3 / symbol, 1e3 / byte,
-           byte / symbol);
+    print_head(&GROWTH);
+    double symbol = line(N, K, M, L), byte = bare_loop(PLUCK_CURVE_BYTES(N, K, M, L));
+    printf("\nUpdates rewrite %.0f million symbols a second, ", 1e3 / symbol);
+    printf("a bare loop that adds one row to another %.0f million bytes: ratio=%.3f\n\n", 1e3 / byte, byte / symbol);
     return 0;
 }

@@ -1,21 +1,21 @@
-/* The library against the plain program and the second program, job by job: first every byte compared, then the time of each. Prints tables, and ends
-   with status 1 if a byte differs, or if interpolation or the list takes the library more than twice the plain program's time at any count of
-   errors. */
+/* The library against the plain program and the second program, job by job: first every byte compared, then the time of each. Prints tables, and
+   ends with status 1 if a byte differs, or if interpolation or the list takes the library more than twice the plain program's time at any
+   count of errors. */
+#include "fields.h"
 #include "programs.h"
+#include "table.h"
 #include <stdio.h>
 #include <stdlib.h>
 #include <string.h>
 
-/* The setting of a departure: field 31, all its points, 6 symbols, up to 15 errors. */
-enum { P = 31, N = 31, K = 6, M = 4, L = 8, ERRORS = 15, T = N - ERRORS, WORDS = 3, CASES = 2000 };
-
-static const uint8_t FIELDS[] = {3, 5, 7, 11, 13, 17, 19, 23, 29, 31};
+/* Of a departure up to 15 symbols are wrong. */
+enum { ERRORS = 15, T = N - ERRORS, WORDS = 3, CASES = 2000 };
 
 /* ---- the same bytes ---- */
 
 static request any_setting(void) {
     int p = FIELDS[any(sizeof FIELDS)], n = 3 + (int)any((unsigned)p - 2), k = 2 + (int)any((unsigned)n - 2);
-    int m = 1 + (int)any(4), l = m + (int)any((unsigned)(9 - m)), t = 1 + (int)any((unsigned)n);
+    int m = 1 + (int)any(PLUCK_MULTIPLICITY_MOST), l = m + (int)any((unsigned)(PLUCK_HEIGHT_MOST + 1 - m)), t = 1 + (int)any((unsigned)n);
     request q = any_request(p, n, k, m, l, t, (int)any((unsigned)n / 2 + 1));
     if (any(4) == 0) any_word(&q);
     return q;
@@ -108,19 +108,26 @@ static void measure_word(measured *sum, manner how, const request *q) {
     measure_job(sum, how, FINISH, q, &s, 20);
 }
 
-static void print_jobs(const measured *s, int program, const char *name) {
-    printf("| job             | library us | %6s us | ratio |\n|---|---:|---:|---:|\n", name);
+/* The library's times beside those of another program. */
+static void print_jobs(const measured *s, int program) {
+    static const char *const TIME[PROGRAMS] = {"library us", " plain us", "second us"};
+    const column columns[] = {{TIME[LIBRARY], 1}, {TIME[program], 1}, {"ratio", 2}};
+    const table jobs = {"job            ", 3, columns};
+    print_head(&jobs);
     for (int j = 0; j < JOBS; j++) {
         const double *ns = s->of[j].of;
-        printf("| %-15s | %10.1f | %9.1f | %5.2f |\n", JOB[j], ns[LIBRARY] / s->words / 1000, ns[program] / s->words / 1000, ns[LIBRARY] / ns[program]);
+        print_row(&jobs, JOB[j], (double[]){ns[LIBRARY] / s->words / 1000, ns[program] / s->words / 1000, ns[LIBRARY] / ns[program]});
     }
     printf("\n");
 }
 
+static const column BY_ERRORS_COLUMNS[] = {{"errors", 0}, {"updates", 0}, {"weight", 1}, {"on the list", 1}, {"start to finish", 2}, {"list", 2}};
+static const table BY_ERRORS = {NULL, 6, BY_ERRORS_COLUMNS};
+
 static void print_errors(int errors, const measured *s) {
-    printf("| %6d | %7.0f | %6.1f | %11.1f | %15.2f | %4.2f |\n", errors, (double)s->updates / s->words, (double)s->weight / s->words,
-           (double)s->count / s->words, ratio(s->of[INTERPOLATION]), ratio(s->of[LIST]));
-    fflush(stdout);
+    double updates = s->updates, weight = s->weight, count = s->count;
+    print_row(&BY_ERRORS, NULL,
+              (double[]){errors, updates / s->words, weight / s->words, count / s->words, ratio(s->of[INTERPOLATION]), ratio(s->of[LIST])});
 }
 
 static void add(measured *sum, const measured *s) {
@@ -130,7 +137,7 @@ static void add(measured *sum, const measured *s) {
 
 static measured by_errors(void) {
     measured all = {0};
-    printf("| errors | updates | weight | on the list | start to finish | list |\n|---:|---:|---:|---:|---:|---:|\n");
+    print_head(&BY_ERRORS);
     for (int errors = 0; errors <= ERRORS; errors++) {
         measured s = {0};
         for (int i = 0; i < WORDS; i++) {
@@ -174,8 +181,8 @@ static int meet(const uint8_t lines[L][2], request *q) {
     return least;
 }
 
-/* A word on l lines, two or more of them through each place. Their product passes every place twice and weighs l, so with m = 2 a list is sure to have
-   all that have more than l/2 places; here each line has. */
+/* A word on l lines, two or more of them through each place. Their product passes every place twice and weighs l, so with m = 2 a list is sure to
+   have all that have more than l/2 places; here each line has. */
 static request on_lines(void) {
     request q = {P, 0, 2, 2, L, L / 2 + 1, {0}, {0}, {0}};
     uint8_t lines[L][2];
@@ -190,7 +197,8 @@ static measured many_roots(void) {
     measured s = {0};
     request q = on_lines();
     measure_word(&s, WITH_PLAIN, &q);
-    printf("Field 31, n = %d, k = 2, m = 2, l = 8, t = %d: weight %d, %d updates, %d messages on the list.\n\n", q.n, q.t, s.weight, s.updates, s.count);
+    printf("Field %d, n = %d, k = %d, m = %d, l = %d, t = %d: ", q.p, q.n, q.k, q.m, q.l, q.t);
+    printf("weight %d, %d updates, %d messages on the list.\n\n", s.weight, s.updates, s.count);
     if (s.count != L) {
         printf("not l messages on the list\n");
         exit(1);
@@ -201,17 +209,18 @@ static measured many_roots(void) {
 
 int main(void) {
     compare_all();
-    printf("### Words with 0 to %d errors\n\nField %d, n = %d, k = %d, m = %d, l = %d, t = %d; %d words to a line. ", ERRORS, P, N, K, M, L, T, WORDS);
+    printf("### Words with 0 to %d errors\n\n", ERRORS);
+    printf("Field %d, n = %d, k = %d, m = %d, l = %d, t = %d; %d words to a line. ", P, N, K, M, L, T, WORDS);
     printf("The last two columns are library/plain.\n\n");
     measured all = by_errors();
     printf("\nAll of these words, by the word:\n\n");
-    print_jobs(&all, PLAIN, "plain");
+    print_jobs(&all, PLAIN);
     printf("Words of 0, 5, 10 and 15 errors, against the second program:\n\n");
     measured second = with_second();
-    print_jobs(&second, SECOND, "second");
+    print_jobs(&second, SECOND);
     printf("### As many messages as a list can have\n\n");
     measured many = many_roots();
-    print_jobs(&many, PLAIN, "plain");
+    print_jobs(&many, PLAIN);
     printf("The worst of all lines, each to be at most 2: interpolation=%.2f list=%.2f\n\n", worst[INTERPOLATION], worst[LIST]);
     return worst[INTERPOLATION] > 2 || worst[LIST] > 2;
 }

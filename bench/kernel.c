@@ -1,5 +1,5 @@
 /* Times the two row updates of crates/kernels on 64 symbols of the field of 31, and compares their bytes over all fields. */
-#include <stdint.h>
+#include "fields.h"
 #include <stdio.h>
 #include <stdlib.h>
 #include <string.h>
@@ -9,9 +9,7 @@
 typedef void kernel(uint8_t *rows, size_t rows_len, size_t to, size_t from, size_t len, uint8_t c, uint8_t p);
 kernel kernel_subtract, kernel_remainder;
 
-enum { SYMBOLS = 64, ROOM = 2 * SYMBOLS, CALLS = 20000, ROUNDS = 50 };
-
-static const uint8_t FIELDS[] = {3, 5, 7, 11, 13, 17, 19, 23, 29, 31};
+enum { P = 31, SYMBOLS = 64, ROOM = 2 * SYMBOLS, CALLS = 20000, ROUNDS = 50 };
 
 static void fill(uint8_t *rows, uint8_t p) {
     for (int i = 0; i < ROOM; i++) rows[i] = (uint8_t)(rand() % p);
@@ -45,9 +43,9 @@ static void compare(void) {
 static double round_of(kernel *k) {
     static uint8_t rows[ROOM];
     struct timespec begin, end;
-    fill(rows, 31);
+    fill(rows, P);
     clock_gettime(CLOCK_MONOTONIC, &begin);
-    for (int i = 0; i < CALLS; i++) k(rows, ROOM, 0, SYMBOLS, SYMBOLS, (uint8_t)(1 + i % 30), 31);
+    for (int i = 0; i < CALLS; i++) k(rows, ROOM, 0, SYMBOLS, SYMBOLS, (uint8_t)(1 + i % (P - 1)), P);
     clock_gettime(CLOCK_MONOTONIC, &end);
     double ns = (double)(end.tv_sec - begin.tv_sec) * 1e9 + (double)(end.tv_nsec - begin.tv_nsec);
     return ns / ((double)CALLS * SYMBOLS);

@@ -1,10 +1,13 @@
-/* The baseline: document 01's rule in plain C. Symbols are bytes, the modulus is %, loops are loops; the one table is that of inverses.
+/* The baseline: the rules (docs/RULES.md) in plain C. Symbols are bytes, the modulus is %, loops are loops; the one table is that of inverses.
    No function here is taken from the library, and none of its speed comes from anything but the compiler. */
 #include "plain.h"
 #include <string.h>
 
+/* The symbols of the largest field and one more: so many coefficients has e. */
+enum { SIZE = PLAIN_FIELD_MOST + 1 };
+
 static int inverse(int p, int a) {
-    static uint8_t table[32][32];
+    static uint8_t table[SIZE][SIZE];
     if (table[p][1] == 0)
         for (int x = 1; x < p; x++)
             for (int y = 1; y < p; y++)
@@ -26,8 +29,8 @@ void plain_encode(int p, const uint8_t *points, int n, const uint8_t *message, i
 
 /* h through the received places, and e, the product of x - point: one place after the other. */
 static void interpolate(int p, const uint8_t *points, const uint8_t *word, int n, uint8_t *h, uint8_t *e) {
-    memset(h, 0, 32);
-    memset(e, 0, 32);
+    memset(h, 0, SIZE);
+    memset(e, 0, SIZE);
     e[0] = 1;
     for (int s = 0; s < n; s++) {
         int a = points[s];
@@ -59,7 +62,7 @@ static void times_y_less_h(int p, uint8_t *curve, int slot, int height, const ui
 }
 
 plain_note plain_start(int p, const uint8_t *points, const uint8_t *word, int n, int k, int m, int l, uint8_t *rows) {
-    uint8_t h[32], e[32];
+    uint8_t h[SIZE], e[SIZE];
     int slot = m * n + (l - m) * (k - 1) + 1, curve = (l + 1) * slot;
     interpolate(p, points, word, n, h, e);
     for (int i = 0; i < n; i++) h[i] = (uint8_t)((p - h[i]) % p);
@@ -170,7 +173,7 @@ plain_finished plain_finish(plain_note note, const uint8_t *rows, uint8_t *curve
 typedef struct {
     int p, n, k, t, W, height;
     const uint8_t *points, *word;
-    uint8_t curve[PLAIN_CURVE], chosen[32];
+    uint8_t curve[PLAIN_CURVE_MOST], chosen[SIZE];
     uint8_t *messages;
     int count;
 } search;
@@ -208,7 +211,7 @@ static void keep(search *q) {
 }
 
 static void level(search *q, int i) {
-    uint8_t left[9];
+    uint8_t left[PLAIN_HEIGHT_MOST + 1];
     int v = lowest(q, i);
     for (int j = 0; j <= q->height; j++) left[j] = (uint8_t)symbol_at(q, i, v, j);
     for (int c = 0; c < q->p; c++) {
@@ -225,10 +228,10 @@ static void level(search *q, int i) {
 }
 
 plain_listed plain_list(int p, const uint8_t *points, const uint8_t *word, int n, int k, int m, int l, int t, uint8_t *messages) {
-    uint8_t rows[PLAIN_ROWS];
+    uint8_t rows[PLAIN_ROWS_MOST];
     search q = {.p = p, .n = n, .k = k, .t = t, .W = m * n + (l - m) * (k - 1), .points = points, .word = word, .messages = messages};
     plain_note note = plain_start(p, points, word, n, k, m, l, rows);
-    int updates = plain_turn(&note, rows, 65535);
+    int updates = plain_turn(&note, rows, PLAIN_ALLOWANCE_MOST);
     plain_finished f = plain_finish(note, rows, q.curve);
     if (m * t <= f.weight) return (plain_listed){13, 0, 0, 0};
     q.height = f.height;

@@ -1,4 +1,4 @@
-/* The jobs of document 01 as a plain program does them: the baseline that the library is measured against.
+/* The jobs of docs/RULES.md as a plain program does them: the baseline that the library is measured against.
    Requests are trusted: nothing is refused but by number 13, and a room is as long as it has to be. */
 #ifndef PLAIN_H
 #define PLAIN_H
@@ -16,8 +16,16 @@ typedef struct {
     int number, count, updates, weight;
 } plain_listed;
 
-/* The largest slot, curve and rows: W is at most 240 and l at most 8. */
-enum { PLAIN_CURVE = 9 * 241, PLAIN_ROWS = 9 * PLAIN_CURVE };
+/* The limits of docs/RULES.md that it needs: the largest field size, so the most points; the greatest l and W; the bytes of the largest curve
+   and rows; the largest allowance. */
+enum {
+    PLAIN_FIELD_MOST = 31,
+    PLAIN_HEIGHT_MOST = 8,
+    PLAIN_WIDTH_MOST = 240,
+    PLAIN_CURVE_MOST = (PLAIN_HEIGHT_MOST + 1) * (PLAIN_WIDTH_MOST + 1),
+    PLAIN_ROWS_MOST = (PLAIN_HEIGHT_MOST + 1) * PLAIN_CURVE_MOST,
+    PLAIN_ALLOWANCE_MOST = 65535
+};
 
 void plain_encode(int p, const uint8_t *points, int n, const uint8_t *message, int k, uint8_t *word);
 plain_note plain_start(int p, const uint8_t *points, const uint8_t *word, int n, int k, int m, int l, uint8_t *rows);

@@ -7,8 +7,6 @@
 #include <string.h>
 #include <time.h>
 
-enum { MORE_THAN_NEEDED = 65535 };
-
 /* ---- requests ---- */
 
 unsigned any(unsigned below) {
@@ -32,7 +30,7 @@ static void shuffle(uint8_t *xs, int count) {
 
 request any_request(int p, int n, int k, int m, int l, int t, int errors) {
     request q = {(uint8_t)p, (uint8_t)n, (uint8_t)k, (uint8_t)m, (uint8_t)l, (uint8_t)t, {0}, {0}, {0}};
-    uint8_t wrong[POINTS];
+    uint8_t wrong[PLUCK_FIELD_MOST];
     shuffle(q.points, p);
     for (int i = 0; i < k; i++) q.message[i] = (uint8_t)any((unsigned)p);
     plain_encode(p, q.points, n, q.message, k, q.word);
@@ -52,8 +50,8 @@ typedef struct {
     uint8_t (*start)(uint8_t, const uint8_t *, size_t, const uint8_t *, size_t, uint8_t, uint8_t, uint8_t, uint8_t *, size_t, uint8_t *, size_t);
     uint8_t (*turn)(uint8_t *, size_t, uint8_t *, size_t, uint16_t, uint8_t *, size_t);
     uint8_t (*finish)(const uint8_t *, size_t, const uint8_t *, size_t, uint8_t *, size_t, uint8_t *, size_t);
-    uint8_t (*list)(uint8_t, const uint8_t *, size_t, const uint8_t *, size_t, uint8_t, uint8_t, uint8_t, uint8_t, uint8_t *, size_t, uint8_t *, size_t, uint8_t *,
-                    size_t);
+    uint8_t (*list)(uint8_t, const uint8_t *, size_t, const uint8_t *, size_t, uint8_t, uint8_t, uint8_t, uint8_t, uint8_t *, size_t, uint8_t *,
+                    size_t, uint8_t *, size_t);
 } calls;
 
 static const calls LIBRARY_CALLS = {pluck_encode, pluck_start, pluck_turn, pluck_finish, pluck_list};
@@ -67,12 +65,12 @@ static uint8_t call(const calls *c, int job, const request *q, side *s) {
     switch (job) {
     case ENCODE: return c->encode(q->p, q->points, q->n, q->message, q->k, s->word, sizeof s->word);
     case START: return c->start(q->p, q->points, q->n, q->word, q->n, q->k, q->m, q->l, s->rows, sizeof s->rows, s->note, sizeof s->note);
-    case TURN: return call_turn(c, s, MORE_THAN_NEEDED);
+    case TURN: return call_turn(c, s, PLUCK_ALLOWANCE_MOST);
     case FINISH: return c->finish(s->note, sizeof s->note, s->rows, sizeof s->rows, s->curve, sizeof s->curve, s->back, sizeof s->back);
     case INTERPOLATION: return call(c, START, q, s), call(c, TURN, q, s), call(c, FINISH, q, s);
     default:
-        return c->list(q->p, q->points, q->n, q->word, q->n, q->k, q->m, q->l, q->t, s->room, sizeof s->room, s->messages, sizeof s->messages, s->back,
-                       sizeof s->back);
+        return c->list(q->p, q->points, q->n, q->word, q->n, q->k, q->m, q->l, q->t, s->room, sizeof s->room, s->messages, sizeof s->messages,
+                       s->back, sizeof s->back);
     }
 }
 
@@ -83,8 +81,9 @@ static plain_note note_of(const side *s) { return (plain_note){s->note[0], s->no
 static void keep_note(side *s, plain_note n) { memcpy(s->note, (uint8_t[]){n.p, n.n, n.k, n.m, n.l, n.r}, sizeof s->note); }
 
 static void keep_back(side *s, int number, int updates, int weight, int height, int count) {
+    uint8_t low = (uint8_t)(updates % 256), high = (uint8_t)(updates / 256);
     s->number = (uint8_t)number;
-    memcpy(s->back, (uint8_t[]){(uint8_t)(updates % 256), (uint8_t)(updates / 256), (uint8_t)weight, (uint8_t)height, (uint8_t)count}, sizeof s->back);
+    memcpy(s->back, (uint8_t[]){low, high, (uint8_t)weight, (uint8_t)height, (uint8_t)count}, sizeof s->back);
 }
 
 static void plain_turn_of(side *s, int allowance) {
@@ -108,7 +107,7 @@ static void plain(int job, const request *q, side *s) {
     switch (job) {
     case ENCODE: plain_encode(q->p, q->points, q->n, q->message, q->k, s->word); break;
     case START: keep_note(s, plain_start(q->p, q->points, q->word, q->n, q->k, q->m, q->l, s->rows)); break;
-    case TURN: plain_turn_of(s, MORE_THAN_NEEDED); break;
+    case TURN: plain_turn_of(s, PLUCK_ALLOWANCE_MOST); break;
     case FINISH: plain_finish_of(s); break;
     case INTERPOLATION: plain(START, q, s), plain(TURN, q, s), plain(FINISH, q, s); break;
     default: plain_list_of(q, s);

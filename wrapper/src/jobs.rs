@@ -105,7 +105,7 @@ pub fn finish(note: &Note, rows: &[u8], curve: &mut [u8]) -> Finished {
 }
 
 /// Lists the messages that agree with the word at t places or more, k symbols each, ascending. Needs
-/// [`ROOM_BYTES`](crate::ROOM_BYTES) of working room and [`messages_bytes`](crate::messages_bytes). Refusals: 1 to 9, 13.
+/// [`WORKING_ROOM`](crate::WORKING_ROOM) bytes of room and [`messages_bytes`](crate::messages_bytes). Refusals: 1 to 9, 13.
 pub fn list(request: &Request, t: u8, room: &mut [u8], messages: &mut [u8]) -> Near {
     let mut back = Back::default();
     let number = calls::list(request, t, room, messages, back.bytes());

@@ -34,13 +34,19 @@
 #[allow(unsafe_code)]
 mod calls;
 mod jobs;
+mod limits;
 mod note;
 mod refusal;
 mod rooms;
 
 pub use jobs::{encode, finish, list, start, Finished, Near, Request, Started};
+pub use limits::{
+    ALLOWANCE_MOST, CURVE_MOST, FIELD_MOST, HEIGHT_MOST, MESSAGES_MOST, MULTIPLICITY_MOST,
+    ROWS_MOST, UPDATES_MOST, WIDTH_MOST, WORKING_ROOM,
+};
 pub use note::{Note, Turned};
 pub use refusal::{Outcome, Refusal};
-pub use rooms::{
-    curve_bytes, greatest_weight, messages_bytes, rows_bytes, CURVE_MOST, ROOM_BYTES, ROWS_MOST,
-};
+pub use rooms::{curve_bytes, greatest_weight, messages_bytes, rows_bytes};
+
+/// The version of the library, that of the file VERSION.
+pub const VERSION: &str = env!("CARGO_PKG_VERSION");

@@ -1,15 +1,6 @@
 //! The sizes of the rooms, in bytes. They are for numbers within their ranges; on any others some size is given too, and
 //! no sum or product overflows: with bytes for numbers the largest is below 2^32.
 
-/// The working room of a list.
-pub const ROOM_BYTES: usize = 32_768;
-
-/// The curve's bytes in the largest setting.
-pub const CURVE_MOST: usize = curve_bytes(31, 30, 4, 8);
-
-/// The rows' bytes in the largest setting.
-pub const ROWS_MOST: usize = rows_bytes(31, 30, 4, 8);
-
 const _: () = assert!(usize::BITS >= 32);
 
 /// W, which no term of a row outweighs.

@@ -1,9 +1,10 @@
-//! The figures of document 01, field 7 throughout.
+//! The figures of docs/RULES.md, field 7 throughout.
 
 mod common;
 
 use common::{started, EXAMPLE_19, POINTS, WORD};
-use pluck::{encode, finish, list, start, Near, Note, Refusal, Request, ROOM_BYTES};
+use pluck::{encode, finish, list, start, Near, Note, Refusal, Request};
+use pluck::{ALLOWANCE_MOST, MESSAGES_MOST, WORKING_ROOM};
 
 fn request(word: &[u8], k: u8, m: u8, l: u8) -> Request<'_> {
     Request {
@@ -27,7 +28,7 @@ struct Interpolated {
 
 fn interpolated(request: &Request) -> Interpolated {
     let (mut note, mut rows) = started(request);
-    let turned = note.turn(&mut rows, u16::MAX);
+    let turned = note.turn(&mut rows, ALLOWANCE_MOST);
     assert_eq!((turned.outcome, note.is_finished()), (Ok(()), true));
     let mut curve = vec![99; note.curve_bytes()];
     let finished = finish(&note, &rows, &mut curve);
@@ -51,7 +52,7 @@ fn curve(slot: usize, polys: &[&[u8]]) -> Vec<u8> {
 }
 
 fn near(request: &Request, t: u8) -> (Near, Vec<u8>) {
-    let (mut room, mut messages) = (vec![1; ROOM_BYTES], vec![99; 255]);
+    let (mut room, mut messages) = (vec![1; WORKING_ROOM], vec![99; MESSAGES_MOST]);
     let near = list(request, t, &mut room, &mut messages);
     messages.truncate(usize::from(near.count) * usize::from(request.k));
     (near, messages)
@@ -134,7 +135,7 @@ fn the_curve_of_example_19() {
     assert_eq!(found.curve, curve(15, &smallest));
 
     let (mut note, mut rows) = started(&EXAMPLE_19);
-    assert_eq!(note.turn(&mut rows, u16::MAX).outcome, Ok(()));
+    assert_eq!(note.turn(&mut rows, ALLOWANCE_MOST).outcome, Ok(()));
     let printed: [&[u8]; 4] = [
         &[1, 3, 3, 5, 4, 5, 6],
         &[3, 0, 2, 6, 6, 3],

@@ -4,7 +4,7 @@ mod common;
 
 use common::{started, untouched, EXAMPLE_19, FILL, POINTS, WORD};
 use pluck::{encode, finish, list, start, Finished, Near, Note, Refusal, Request, Turned};
-use pluck::{messages_bytes, ROOM_BYTES};
+use pluck::{messages_bytes, HEIGHT_MOST, WORKING_ROOM};
 
 /// Example 19 with one fault, for each of the numbers 1 to 7.
 fn faulty() -> [(Refusal, Request<'static>); 7] {
@@ -28,7 +28,13 @@ fn faulty() -> [(Refusal, Request<'static>); 7] {
             },
         ),
         (Refusal::Degree, Request { k: 6, ..sound }),
-        (Refusal::Heights, Request { l: 9, ..sound }),
+        (
+            Refusal::Heights,
+            Request {
+                l: HEIGHT_MOST + 1,
+                ..sound
+            },
+        ),
         (
             Refusal::Symbol,
             Request {
@@ -94,20 +100,19 @@ fn list_gives_1_to_9_and_13() {
         room
     };
     for (refusal, request) in faulty() {
-        assert!(untouched(&assert_refuses(
-            &request, 4, ROOM_BYTES, 9, refusal
-        )));
+        let room = assert_refuses(&request, 4, WORKING_ROOM, 9, refusal);
+        assert!(untouched(&room));
     }
     let refuses =
         |t, room, messages, refusal| assert_refuses(&EXAMPLE_19, t, room, messages, refusal);
     assert_eq!(messages_bytes(3, 3), 9);
-    assert!(untouched(&refuses(0, ROOM_BYTES, 9, Refusal::Wanted)));
-    assert!(untouched(&refuses(4, ROOM_BYTES - 1, 9, Refusal::Short)));
-    assert!(untouched(&refuses(4, ROOM_BYTES, 8, Refusal::Short)));
+    assert!(untouched(&refuses(0, WORKING_ROOM, 9, Refusal::Wanted)));
+    assert!(untouched(&refuses(4, WORKING_ROOM - 1, 9, Refusal::Short)));
+    assert!(untouched(&refuses(4, WORKING_ROOM, 8, Refusal::Short)));
     // 13 comes after the work, which leaves the working room zero.
-    let room = refuses(3, ROOM_BYTES + 1, 9, Refusal::Unvouched);
-    assert_eq!(room[..ROOM_BYTES], [0; ROOM_BYTES]);
-    assert_eq!(room[ROOM_BYTES], FILL);
+    let room = refuses(3, WORKING_ROOM + 1, 9, Refusal::Unvouched);
+    assert_eq!(room[..WORKING_ROOM], [0; WORKING_ROOM]);
+    assert_eq!(room[WORKING_ROOM], FILL);
 }
 
 fn assert_turn_refuses(note: [u8; 6], rows: &[u8], refusal: Refusal) {
@@ -183,7 +188,7 @@ fn the_same_bytes_may_be_given_twice() {
         word: &POINTS,
         ..EXAMPLE_19
     };
-    let near = list(&line, 6, &mut vec![0; ROOM_BYTES], &mut [0; 9]);
+    let near = list(&line, 6, &mut vec![0; WORKING_ROOM], &mut [0; 9]);
     assert_eq!((near.outcome, near.count), (Ok(()), 1));
 }
 

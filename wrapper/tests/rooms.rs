@@ -3,16 +3,13 @@
 mod common;
 
 use common::{untouched, EXAMPLE_19, FILL, POINTS};
-use pluck::{
-    curve_bytes, encode, finish, greatest_weight, list, messages_bytes, rows_bytes, start,
-};
-use pluck::{CURVE_MOST, ROOM_BYTES, ROWS_MOST};
+use pluck::{curve_bytes, encode, finish, list, rows_bytes, start};
+use pluck::{ALLOWANCE_MOST, CURVE_MOST, MESSAGES_MOST, ROWS_MOST, WIDTH_MOST, WORKING_ROOM};
 
 #[test]
 fn the_largest_rooms() {
-    assert_eq!(greatest_weight(31, 30, 4, 8), 240);
+    assert_eq!((WIDTH_MOST, MESSAGES_MOST), (240, 240));
     assert_eq!((CURVE_MOST, ROWS_MOST), (2_169, 19_521));
-    assert_eq!(messages_bytes(30, 8), 240);
 }
 
 #[test]
@@ -41,14 +38,14 @@ fn what_is_lent_beyond_the_need_stays_as_it_was() {
     assert_eq!(started.outcome, Ok(()));
     assert!(untouched(&rows[240..]));
     let mut note = started.note;
-    assert_eq!(note.turn(&mut rows, u16::MAX).outcome, Ok(()));
+    assert_eq!(note.turn(&mut rows, ALLOWANCE_MOST).outcome, Ok(()));
     assert!(untouched(&rows[240..]));
     assert_eq!(finish(&note, &rows, &mut curve).outcome, Ok(()));
     assert!(untouched(&curve[60..]));
 
-    let (mut room, mut messages) = (vec![FILL; ROOM_BYTES + 3], [FILL; 12]);
+    let (mut room, mut messages) = (vec![FILL; WORKING_ROOM + 3], [FILL; 12]);
     let near = list(&EXAMPLE_19, 4, &mut room, &mut messages);
     assert_eq!((near.outcome, near.count), (Ok(()), 2));
-    assert_eq!(room[..ROOM_BYTES], [0; ROOM_BYTES]);
-    assert!(untouched(&room[ROOM_BYTES..]) && untouched(&messages[6..]));
+    assert_eq!(room[..WORKING_ROOM], [0; WORKING_ROOM]);
+    assert!(untouched(&room[WORKING_ROOM..]) && untouched(&messages[6..]));
 }

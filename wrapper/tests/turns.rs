@@ -3,7 +3,7 @@
 mod common;
 
 use common::{started, EXAMPLE_19};
-use pluck::{finish, Note, Refusal, Request, Turned};
+use pluck::{finish, Note, Refusal, Request, Turned, ALLOWANCE_MOST};
 use second::random::Random;
 use second::sample;
 
@@ -41,7 +41,7 @@ fn turns_in_pieces_give_the_rows_and_the_curve_of_one() {
         };
         let (mut note, mut rows) = started(&request);
         let (mut other_note, mut other_rows) = (note.clone(), rows.clone());
-        let whole = note.turn(&mut rows, u16::MAX);
+        let whole = note.turn(&mut rows, ALLOWANCE_MOST);
         assert_eq!((whole.outcome, note.is_finished()), (Ok(()), true));
         let updates = in_pieces(&mut random, &mut other_note, &mut other_rows);
         assert_eq!(updates, u32::from(whole.updates));
@@ -68,7 +68,7 @@ fn a_turn_refused_late_says_what_it_did() {
             r as u8,
         ];
         let (mut note, mut rows) = (Note::from(bytes), before.clone());
-        let turned = note.turn(&mut rows, u16::MAX);
+        let turned = note.turn(&mut rows, ALLOWANCE_MOST);
         assert_eq!(turned.outcome, Err(Refusal::Rows));
         assert_eq!(<[u8; 6]>::from(note.clone()), bytes);
         after_updates += usize::from(turned.updates > 0);

@@ -19,6 +19,21 @@
 extern "C" {
 #endif
 
+/* The version of the library: that of the file VERSION at the top of the repository. */
+#define PLUCK_VERSION "0.1.0"
+
+/* The limits (docs/RULES.md). Where one follows from others, it says how; PLUCK_W and the sizes stand below. */
+#define PLUCK_FIELD_MOST 31        /* the largest field size, so the most points */
+#define PLUCK_MULTIPLICITY_MOST 4  /* the greatest m */
+#define PLUCK_HEIGHT_MOST 8        /* the greatest l */
+#define PLUCK_WIDTH_MOST 240       /* the greatest W: 4 * 31 + (8 - 4) * 29 */
+#define PLUCK_CURVE_MOST 2169      /* the bytes of the largest curve: 9 * 241 */
+#define PLUCK_ROWS_MOST 19521      /* the bytes of the largest rows: 9 * 2169 */
+#define PLUCK_WORKING_ROOM 32768   /* the bytes of the working room of a list */
+#define PLUCK_MESSAGES_MOST 240    /* the bytes of the most messages: 8 * 30 */
+#define PLUCK_UPDATES_MOST 3886    /* the most updates from a start: 29 * (1 + 4 + 9 + 16) + 29 * 4 * (5 + 6 + 7 + 8) */
+#define PLUCK_ALLOWANCE_MOST 65535 /* the largest allowance */
+
 /* The numbers that a call returns. */
 enum {
     PLUCK_DONE = 0,
@@ -26,7 +41,7 @@ enum {
     PLUCK_COUNT = 2,     /* n, the count of points, is below 3 or above p */
     PLUCK_LENGTH = 3,    /* the word's length is not n */
     PLUCK_DEGREE = 4,    /* k is below 2 or above n - 1 */
-    PLUCK_HEIGHTS = 5,   /* m is outside 1 to 4, or l outside m to 8 */
+    PLUCK_HEIGHTS = 5,   /* m is outside 1 to PLUCK_MULTIPLICITY_MOST, or l outside m to PLUCK_HEIGHT_MOST */
     PLUCK_SYMBOL = 6,    /* a point or symbol is p or more */
     PLUCK_REPEATED = 7,  /* two points are equal */
     PLUCK_WANTED = 8,    /* t is below 1 or above n */
@@ -43,9 +58,6 @@ enum {
 #define PLUCK_CURVE_BYTES(n, k, m, l) (((l) + 1) * PLUCK_SLOT_BYTES(n, k, m, l))        /* slots by rising power of y */
 #define PLUCK_ROWS_BYTES(n, k, m, l) (((l) + 1) * PLUCK_CURVE_BYTES(n, k, m, l))        /* rows 0 to l */
 #define PLUCK_MESSAGES_BYTES(k, l) ((l) * (k))
-#define PLUCK_ROOM_BYTES 32768
-#define PLUCK_CURVE_MOST 2169 /* the largest of all settings: l = 8, W = 240 */
-#define PLUCK_ROWS_MOST 19521
 
 /* A note: six bytes, in this order. The work is finished when r is l + 1. */
 enum { PLUCK_NOTE_P, PLUCK_NOTE_N, PLUCK_NOTE_K, PLUCK_NOTE_M, PLUCK_NOTE_L, PLUCK_NOTE_R, PLUCK_NOTE_BYTES };
@@ -86,8 +98,8 @@ uint8_t pluck_finish(const uint8_t *note, size_t note_len, const uint8_t *rows, 
 
 /* List: all messages that agree with the word at t places or more, k symbols each with the constant first, in ascending order. Hands back
    their count (at most l), all updates made and the curve's weight. An empty list is number 0 with count 0.
-   Refusals: 1 to 9 in order (9: a room below PLUCK_ROOM_BYTES, messages below PLUCK_MESSAGES_BYTES, `back` below PLUCK_BACK_BYTES), then
-   13. Leaves the first PLUCK_ROOM_BYTES of the room zero, after 0 and after 13; writes count times k bytes of the messages, and `back`.
+   Refusals: 1 to 9 in order (9: a room below PLUCK_WORKING_ROOM, messages below PLUCK_MESSAGES_BYTES, `back` below PLUCK_BACK_BYTES), then
+   13. Leaves the first PLUCK_WORKING_ROOM of the room zero, after 0 and after 13; writes count times k bytes of the messages, and `back`.
    After 1 to 9 room and messages are as they were, after 13 the messages. */
 uint8_t pluck_list(uint8_t p, const uint8_t *points, size_t points_len, const uint8_t *word, size_t word_len, uint8_t k, uint8_t m, uint8_t l,
                    uint8_t t, uint8_t *room, size_t room_len, uint8_t *messages, size_t messages_len, uint8_t *back, size_t back_len);
