@@ -1,7 +1,5 @@
 /* A board: a departure arrives with errors and is decoded in turns of 50 updates, with a redraw between any two of them.
-   Build, from the top of the repository:
-       rt staticlib boards
-       gcc -O2 -Icrates/boards/include -o target/board crates/boards/example/board.c target/staticlib/libboards.a */
+   The script `run` beside it builds and runs it, and compares what it prints with board.out. */
 #include "pluck.h"
 #include <stdio.h>
 
@@ -10,7 +8,7 @@ enum { P = 31, N = 31, K = 6, M = 4, L = 8, T = 16, TURN = 50 };
 
 static uint8_t points[N], word[N];
 static uint8_t rows[PLUCK_ROWS_BYTES(N, K, M, L)], curve[PLUCK_CURVE_BYTES(N, K, M, L)];
-static uint8_t room[PLUCK_ROOM_BYTES], messages[PLUCK_MESSAGES_BYTES(K, L)];
+static uint8_t room[PLUCK_WORKING_ROOM], messages[PLUCK_MESSAGES_BYTES(K, L)];
 
 static int refused(const char *job, uint8_t number) {
     if (number != PLUCK_DONE) printf("%s: number %d\n", job, number);
