@@ -40,7 +40,7 @@ use Rattle.rows.proofs.HeldRows.{holds-row}
 use Rattle.rows.proofs.Demands.{demand-3, demand-2}
 use Rattle.rows.proofs.Accepted.{Accepted, start-accepted, accepted-note}
 use Rattle.rows.proofs.Placing.{rows-small}
-use Rattle.near.specs.Job.{taskOf, requestOf, listTable, Zeroed, refusal, RuleUpdates, Lists, HasListed}
+use Rattle.near.specs.Job.{taskOf, listTable, Zeroed, refusal, RuleUpdates, Lists, HasListed}
 use Rattle.near.specs.Lists.{IsList}
 use Rattle.near.specs.Search.{found}
 use Rattle.near.specs.Work.{curveOf, taskFor, planOf, Laid, Runs, Ran, FoundCurve}
@@ -99,7 +99,7 @@ module _ {p : ℕ} {points word : List ℕ} {k m l : ℕ} {room rows new lent cu
     (went : HasTurned (start .note) allowanceMost rows new turn)
     (ended : HasFinished (turn .note) new lent curve finish) where
   abbrev q : Request
-  q = requestOf p points word k m l
+  q = record { p = p; points = points; word = word; k = k; m = m; l = l }
 
   accepted : Accepted p points word k m l room
   accepted = start-accepted first refl

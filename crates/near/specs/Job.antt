@@ -1,6 +1,5 @@
--- The job list: when it refuses, and what it leaves.
---   taskOf p points word k t       what is asked of the list, over the symbols of p
---   requestOf p points word k m l  what is asked of the interpolation
+-- The job list: when it refuses, and what it leaves. Rules: sections 12 to 16.
+--   taskOf p points word k t   what is asked of the list, over the symbols of p
 --   listTable          refusals 1 to 9
 --   flat list          the messages one after the other
 --   Zeroed size xs ys  ys is xs with its first `size` bytes zero
@@ -22,17 +21,13 @@ use Rattle.poly.specs.Buffers.{Untouched}
 use Rattle.curves.specs.Curves.{Curve}
 use Rattle.curves.specs.Start.{startRow}
 use Rattle.curves.specs.Turns.{Outcome, Turn}
-use Rattle.rows.specs.Jobs.{requestTable}
-use Rattle.rows.specs.Demands.{Request, TheCurve}
+use Rattle.rows.specs.Jobs.{TheCurve, requestTable}
 use Rattle.near.specs.Lists.{Task, IsList}
 use Rattle.near.specs.declared.Near.{Near}
 
 abbrev pub taskOf : (p : ℕ) → List ℕ → List ℕ → ℕ → ℕ → Task (symbols p)
 taskOf p points word k t =
     record { p = p; element = symbol p; n = length points; point = symbolsOf p points; received = symbolsOf p word; k = k; t = t }
-
-abbrev pub requestOf : ℕ → List ℕ → List ℕ → ℕ → ℕ → ℕ → Request
-requestOf p points word k m l = record { p = p; points = points; word = word; k = k; m = m; l = l }
 
 abbrev pub listTable : ℕ → List ℕ → List ℕ → ℕ → ℕ → ℕ → ℕ → List ℕ → List ℕ → List Refusal
 listTable p points word k m l t room messages =
@@ -77,7 +72,7 @@ module _ (p : ℕ) (points word : List ℕ) (k m l : ℕ) where
 
     pub record Answers (room-before room-after before after : List ℕ) (back : Near) : Type 0 where
       pub curve : Curve (symbols p .ring)
-      pub smallest : TheCurve (requestOf p points word k m l) curve
+      pub smallest : TheCurve p points word k m l curve
       pub zeroed : Zeroed workingRoom room-before room-after
       pub unvouched : m * t ≤ smallest .weight → (back ≡ refusal 13) × (after ≡ before)
       pub lists : smallest .weight < m * t → Lists (smallest .weight) before after back

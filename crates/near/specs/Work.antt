@@ -36,10 +36,10 @@ use Rattle.poly.specs.Limits.{workingRoom}
 use Rattle.curves.specs.Curves.{Curve, Under}
 use Rattle.rows.specs.Bytes.{width, shape, curveBytes, rowsOf, HoldsCurve}
 use Rattle.rows.specs.Work.{Fine}
-use Rattle.rows.specs.Demands.{TheCurve}
+use Rattle.rows.specs.Jobs.{TheCurve}
 use Rattle.rows.specs.declared.Shape.{Shape}
 use Rattle.near.specs.Lists.{Task, Spelt, polynomial, agreements}
-use Rattle.near.specs.Job.{taskOf, requestOf, flat, RuleUpdates}
+use Rattle.near.specs.Job.{taskOf, flat, RuleUpdates}
 use Rattle.near.specs.Search.{chosen, slice, level, opened, found}
 use Rattle.near.specs.declared.Weighed.{Weighed}
 use Rattle.near.specs.declared.search.Plan.{Plan}
@@ -138,7 +138,7 @@ pub record Ran (k : ℕ) (list : List (List ℕ)) (before after : List ℕ) (r :
 
 pub record FoundCurve (p : ℕ) (points word : List ℕ) (k m l : ℕ) (room-before room-after before after : List ℕ) (back : Weighed) : Type 0 where
   pub curve : Curve (symbols p .ring)
-  pub smallest : TheCurve (requestOf p points word k m l) curve
+  pub smallest : TheCurve p points word k m l curve
   pub bytes : HoldsCurve (shape p (length points) k m l) after curve
   pub long : length after ≡ length before
   pub weight-is : back .weight ≡ smallest .weight

@@ -1,9 +1,8 @@
--- Demands 2 and 3 as statements about what the jobs hand back.
+-- Demands 2 and 3 as statements about what the jobs hand back. Rules: section 21.
 --   Request        what start is given
 --   ringFor q, shapeFor q, noteFor q r   its symbols, the numbers by which its bytes are read, and its note with r as the current row
 --   updatesBound q the formula
 --   Member q Q     Q is zero or one of the curves of demand 2
---   TheCurve q Q   Q is the curve of demand 2: of those, the monic nonzero one with the smallest leading term
 --   Begun          start accepts the request
 --   Driven         such a start, then any number of turns, each on the rows that the last one left and with the note that it gave
 --   Pause          what holds at every pause (demand 3)
@@ -15,10 +14,10 @@ use Prim.Native.Nat.{ℕ, suc, _+_, _-_, _≤_, _<_}
 use lib.ListN.{length}
 use Rattle.field.specs.Field.{Ring}
 use Rattle.field.specs.Symbols.{symbols, symbolsOf}
-use Rattle.curves.specs.Curves.{Curve, HasHeight, LeadsAt, Span, Smallest, Passing}
+use Rattle.curves.specs.Curves.{Curve, HasHeight, LeadsAt, Span, Passing}
 use Rattle.curves.specs.Start.{formula}
 use Rattle.rows.specs.Bytes.{shape, curveBytes, rowsOf, HoldsCurve}
-use Rattle.rows.specs.Jobs.{HasStarted, HasTurned, HasFinished}
+use Rattle.rows.specs.Jobs.{TheCurve, HasStarted, HasTurned, HasFinished}
 use Rattle.rows.specs.declared.Note.{Note}
 use Rattle.rows.specs.declared.Shape.{Shape}
 use Rattle.rows.specs.declared.Started.{Started}
@@ -49,9 +48,6 @@ module _ (q : Request) where
   abbrev pub Member : Curve ringFor → Type 0
   Member = Passing ringFor (length (q .points)) (q .m) (q .l) (symbolsOf (q .p) (q .points)) (symbolsOf (q .p) (q .word))
 
-  abbrev pub TheCurve : Curve ringFor → Type 0
-  TheCurve = Smallest ringFor (q .k - 1) Member
-
   abbrev pub Begun : List ℕ → List ℕ → Started → Type 0
   Begun before after back = HasStarted (q .p) (q .points) (q .word) (q .k) (q .m) (q .l) before after back × (back .number ≡ 0)
 
@@ -64,8 +60,8 @@ module _ (q : Request) where
   pub record HandsCurve (curve : List ℕ) (back : Finished) : Type 0 where
     pub done : back .number ≡ 0
     pub Q : Curve ringFor
-    pub smallest : TheCurve Q
-    pub only : (P : Curve ringFor) → TheCurve P → P ≡ Q
+    pub smallest : TheCurve (q .p) (q .points) (q .word) (q .k) (q .m) (q .l) Q
+    pub only : (P : Curve ringFor) → TheCurve (q .p) (q .points) (q .word) (q .k) (q .m) (q .l) P → P ≡ Q
     pub bytes : HoldsCurve shapeFor curve Q
     pub weight : back .weight ≡ smallest .weight
     pub light : smallest .weight ≤ shapeFor .width

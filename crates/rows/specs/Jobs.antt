@@ -1,4 +1,6 @@
--- The jobs start, turn and finish: when each refuses, and what it leaves. A refusal at entry leaves every byte as it was.
+-- The jobs start, turn and finish: when each refuses, and what it leaves. A refusal at entry leaves every byte as it was. Rules: sections 8 to 16.
+--   TheCurve p points word k m l Q   Q is the curve of demand 2: of those that pass through the received points, the monic nonzero one with
+--                          the smallest leading term
 --   BadNote note           10: 1, 2, 4 or 5 would apply to the note, or r is outside 1 to l + 1
 --   shapeOf note           the numbers by which the bytes of its rows are read
 --   AsLeft S r xs          the rows are as a turn leaves them; 11 if they are not
@@ -18,7 +20,7 @@ use Rattle.field.specs.Symbols.{symbols, symbolsOf}
 use Rattle.poly.specs.Polynomials.{Seq, locator, Through}
 use Rattle.poly.specs.Table.{Refusal, First, NotListed, BadCount, BadDegree, BadHeights, TooLarge, Repeated, TooShort}
 use Rattle.poly.specs.Buffers.{Untouched}
-use Rattle.curves.specs.Curves.{Curve, HasHeight}
+use Rattle.curves.specs.Curves.{Curve, HasHeight, Smallest, Passing}
 use Rattle.curves.specs.Start.{startRow}
 use Rattle.curves.specs.Turns.{Outcome, Turn}
 use Rattle.curves.specs.Entry.{Sound}
@@ -30,6 +32,10 @@ use Rattle.rows.specs.declared.Started.{Started}
 use Rattle.rows.specs.declared.Turned.{Turned}
 use Rattle.rows.specs.declared.Made.{Made}
 use Rattle.rows.specs.declared.Finished.{Finished}
+
+abbrev pub TheCurve : (p : ℕ) → List ℕ → List ℕ → ℕ → ℕ → ℕ → Curve (symbols p .ring) → Type 0
+TheCurve p points word k m l =
+    Smallest (symbols p .ring) (k - 1) (Passing (symbols p .ring) (length points) m l (symbolsOf p points) (symbolsOf p word))
 
 pub data BadNote (note : Note) : Type 0 where
   size : NotListed (note .p) → BadNote note
