@@ -1,4 +1,4 @@
--- The document's formula is the sum of r b_r over the rows r = 1 to l, with b_r = min (r, m) (n - k); and it is not zero.
+-- The formula is the sum of r b_r over the rows r = 1 to l, with b_r = min (r, m) (n - k); and it is not zero.
 use mathlib.Core.Path.{_≡_, refl, sym, ap, ap₂, _∙_}
 use Prim.Native.Nat.{ℕ, zero, suc, _+_, _-_, _*_, _≤_, _<_, min}
 use native.Mathlib.Nat.{add-zero, add-suc, mul-le-mul}

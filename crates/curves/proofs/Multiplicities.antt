@@ -42,7 +42,7 @@ module _ {R : Ring} (L : RingLaws R) where
   open Ring R using (Car, times as _⊗_)
 
   infixl 70 _⊗_
-  -- the document's coefficients are those of the moved curve
+  -- the coefficients of the definition are those of the moved curve
   shifted-is : (M N : ℕ) (a v : Car) (Q : Curve R) (i j : ℕ) → shifted R M N a v Q i j ≡ moved R M N a v Q j i
   unfolding shifted
   shifted-is M N a v Q i j =

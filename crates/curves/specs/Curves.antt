@@ -1,4 +1,4 @@
--- Curves: polynomials in x and y, one x-polynomial for each power of y. With u = k - 1, the term x^i y^j weighs i + u j.
+-- Curves: polynomials in x and y, one x-polynomial for each power of y. With u = k - 1, the term x^i y^j weighs i + u j. Rules: sections 3 and 4.
 --   Curve R          Q j i is the coefficient of x^i y^j
 --   Finite Q         finitely many powers of x
 --   Height h Q       fewer than h powers of y

@@ -1,4 +1,4 @@
--- Rows as a turn leaves them: what is asked of them at entry, and what number 11 denies.
+-- Rows as a turn leaves them: what is asked of them at entry, and what number 11 denies. Rules: section 14.
 --   Sound u W l r rows   of the rows 0 to l, with r the current one: no coefficient of weight above W, no row zero, row i up to r of
 --                        height at most r, row i above r of height at most i, and row i below r leading at y^i
 use Prim.Native.Nat.{ℕ, zero, suc, _≤_, _<_}

@@ -1,4 +1,4 @@
--- What a finish hands over: the row with the smallest leading term, made monic.
+-- What a finish hands over: the row with the smallest leading term, made monic. Rules: section 11.
 --   Lightest u l rows i w   of the rows 0 to l, each leading at its own power of y, row i leads with the smallest term, of weight w
 --   monic u w s Q           Q, which leads at y^s with weight w, times the inverse of its leading coefficient
 use Prim.Native.Nat.{ℕ, _-_, _*_, _≤_}

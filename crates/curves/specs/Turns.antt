@@ -1,4 +1,4 @@
--- The rule of a turn, step for step, on rows that are curves.
+-- The rule of a turn, step for step, on rows that are curves. Rules: section 9.
 --   cross a P c b Q     x^a P - c x^b Q
 --   ratio u s w v P Q   the leading coefficient of P over that of Q, where both lead at y^s, at weights w and v
 --   update u r w s v rows   row r leads at (w, s) and row s at (v, s): the rows after the update. With d = w - v,

@@ -1,4 +1,4 @@
--- The ten fields: the numbers below p, one byte each, with sums and products modulo p.
+-- The ten fields: the numbers below p, one byte each, with sums and products modulo p. Rules: section 2.
 --   among list p        p is among the numbers of a list; sizes  the ten field sizes
 --   listed p, Listed p  p is one of the ten: as a test, and as a fact that brings p's bounds
 --   Element p           a symbol, that is, a number that is its own remainder modulo p

@@ -1,4 +1,4 @@
--- Document 01's starred figures hold.
+-- The starred figures of docs/RULES.md hold.
 use mathlib.Core.Path.{_≡_, refl, sym, _∙_}
 use mathlib.Core.Logic.{⊎-elim}
 use mathlib.Core.List.{List, [], _∷_}

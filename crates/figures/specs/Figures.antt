@@ -1,5 +1,5 @@
--- The figures of document 01 that are marked to be proved, as one statement. Each says what any outcome is that meets the contracts of the
--- jobs, whatever the lent bytes were before.
+-- The figures of docs/RULES.md, section 18, that are marked to be proved, as one statement. Each says what any outcome is that meets the
+-- contracts of the jobs, whatever the lent bytes were before.
 --   six, three             the points 1 to 6 and the points 1, 2, 3; word-0-0-1  a word at these
 --   Encodes message word   encode gives this word over the field of 7 at the points 1 to 6
 --   Calls q                start, turn and finish one after the other, for the request q

@@ -1,4 +1,4 @@
-// Runs document 01's figures; what it prints is held against stdout. The starred ones are proved besides (specs/Figures.antt). A message or
+// Runs the figures of docs/RULES.md, section 18; what it prints is held against stdout. The starred ones are proved besides (specs/Figures.antt). A message or
 // a word is given as a decimal number, a digit for each symbol.
 use libc::STDOUT_FILENO;
 use poly::limits::ALLOWANCE_MOST;

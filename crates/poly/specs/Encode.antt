@@ -1,4 +1,4 @@
--- Encoding: byte s of the word is the message's value at point s.
+-- Encoding: byte s of the word is the message's value at point s. Rules: section 7.
 --   valueAt p xs a     the value at the point a of the polynomial whose coefficients the bytes xs are
 --   encodeTable        when encode refuses; n is the count of points and k the message's length
 --   Encoded            what encode leaves: the number, and every byte of the lent word

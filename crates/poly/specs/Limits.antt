@@ -1,4 +1,4 @@
--- The limits of the numbers that a caller gives, and what follows from them.
+-- The limits of the numbers that a caller gives, and what follows from them. Rules: section 5.
 --   fieldMost           the largest field size, and so the most points
 --   multiplicityMost    the greatest multiplicity m
 --   heightMost          the greatest height l

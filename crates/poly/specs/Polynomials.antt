@@ -1,4 +1,4 @@
--- Polynomials in x over a ring, as sequences of coefficients, lowest power first.
+-- Polynomials in x over a ring, as sequences of coefficients, lowest power first. Rules: section 2.
 --   Seq R              f n is the coefficient of x^n
 --   tail R f           the coefficients from the second on: f is f 0 + x (tail f)
 --   zeroS R, oneS R    0, 1

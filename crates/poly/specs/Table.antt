@@ -1,5 +1,5 @@
--- The numbers that a caller can get back. A job's table lists its refusals in the document's order, each with its number and with what
--- makes it apply; the number given is that of the first one that applies, and 0 if none does.
+-- The numbers that a caller can get back (docs/RULES.md, sections 13 to 15). A job's table lists its refusals in order, each with its number
+-- and with what makes it apply; the number given is that of the first one that applies, and 0 if none does.
 --   Refusal                a line of a table: its number, and what makes it apply
 --   First table number     number is the one to be given
 --   NotListed p            1: p is not one of the ten

@@ -1,4 +1,4 @@
--- What the program answers to a text.
+-- What the program answers to a text. Rules: section 17.
 --   Answered text before after r   the r first bytes of the lent buffer are the answer: to a text that can't be read 14, else what the
 --                                  list job hands back for the request that the text means, lent as many bytes as any request can want
 use mathlib.Core.List.{List, []}

@@ -1,5 +1,5 @@
 -- Curves and rows in lent bytes. With W = m n + (l - m)(k - 1), a slot is W + 1 bytes, the x-polynomial of one power of y, lowest power of x
--- first; a curve is l + 1 slots by rising power of y, and the rows are l + 1 curves, row by row.
+-- first; a curve is l + 1 slots by rising power of y, and the rows are l + 1 curves, row by row. Rules: section 6.
 --   width n k m l       W
 --   shape p n k m l     the numbers by which bytes are read: p, u = k - 1, W and l
 --   slot S              the bytes of a slot; curveBytes S, rowsBytes S  of a curve, of the rows

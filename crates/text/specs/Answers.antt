@@ -1,4 +1,4 @@
--- Answers: the text that a reply prints.
+-- Answers: the text that a reply prints. Rules: section 17.
 --   digits i n               the digits of n, if there are no more than i of them
 --   decimal n                n in decimal, without leading zeros
 --   comma i                  what stands before number i; joined i ns  the first i numbers

@@ -1,4 +1,4 @@
--- The definitions on the document's whole case, with m= and l= left empty, on two more answers, and on a number in decimal.
+-- The definitions on the whole case of docs/RULES.md, section 17, with m= and l= left empty, on two more answers, and on a number in decimal.
 use mathlib.Core.Path.{_≡_, refl}
 use mathlib.Core.List.{List, [], _∷_, _++_}
 use Prim.Native.Nat.{ℕ, zero, suc, _-_, _≤_, _<_}

@@ -1,4 +1,4 @@
--- Requests: which texts can be read, and what they mean.
+-- Requests: which texts can be read, and what they mean. Rules: section 17.
 --   written text i           the number that the first i bytes write, decimal digits
 --   Number text n            one to three digits, leading zeros allowed, that write n; n is at most 255
 --   Numbers text ns          numbers with commas between them, one at least

@@ -1,5 +1,5 @@
 -- Which symbols fit. Below its least v the slices of T are zero, and there it is not, if T is not zero: so a root of the slice at v is
--- a symbol that fits, as the document says it. A root's next symbol is one. The curve that the search keeps, the symbols chosen one by
+-- a symbol that fits, as the rules say it. A root's next symbol is one. The curve that the search keeps, the symbols chosen one by
 -- one, is this T: so its test is whether the symbol fits.
 use mathlib.Core.Path.{_≡_, refl, sym, ap, _∙_, fun-ext}
 use mathlib.Core.Logic.{_↔_}
