@@ -1,4 +1,4 @@
--- Rows as they can lie in bytes: none after row l, and none of height above l. A turn on such rows leaves such rows.
+-- Rows 0 to l, of height at most l, and no row after them. A turn on such rows leaves such rows.
 use mathlib.Core.Path.{_≡_}
 use mathlib.Core.Logic.{inl, inr}
 use Prim.Native.Nat.{ℕ, suc, _<_}

@@ -1,4 +1,4 @@
--- The starting rows as they are filled: what stands in a slot of (y - h) Q, a row up to m as e^(m-i) times y - h again and again, and a row
+-- The starting rows as they are filled: what stands at y^j in (y - h) Q, a row up to m as e^(m-i) times y - h again and again, and a row
 -- above m as y times the one before it.
 use mathlib.Core.Path.{_≡_, refl, sym, _∙_}
 use mathlib.Core.List.{[], _∷_}

@@ -1,4 +1,4 @@
--- `near::refuse_list` meets its contract: it asks in the table's order.
+-- `near::refusals::refuse_list` meets its contract: it asks in the table's order.
 use mathlib.Core.Path.{refl}
 use mathlib.Core.Logic.{inl, inr, ⊎-elim}
 use mathlib.Core.List.{List}

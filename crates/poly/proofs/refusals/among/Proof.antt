@@ -1,4 +1,4 @@
--- `among` meets its contract: no byte passed is x. Assumes nothing.
+-- `refusals::among` meets its contract: no byte passed is x. Assumes nothing.
 use mathlib.Core.Path.{_≡_}
 use Prim.Native.Nat.{ℕ, _≤_, _<_, _-_}
 use native.Mathlib.Omega.{arith}

@@ -1,4 +1,4 @@
--- `refuse_encode` meets its contract: it asks in the table's order. Assumes nothing.
+-- `refusals::refuse_encode` meets its contract: it asks in the table's order. Assumes nothing.
 use mathlib.Core.Path.{refl, sym, _∙_}
 use mathlib.Core.Logic.{inl, inr, ⊎-elim}
 use Prim.Native.Nat.{ℕ}

@@ -1,4 +1,4 @@
--- `repeated` meets its contract: no byte passed stands among those before it. Assumes nothing.
+-- `refusals::repeated` meets its contract: no byte passed stands among those before it. Assumes nothing.
 use Prim.Native.Nat.{ℕ, _≤_, _<_, _-_}
 use native.Mathlib.Omega.{arith}
 use lib.ListN.{length, getD}

@@ -1,4 +1,4 @@
--- `too_large` meets its contract: every byte passed is below p. Assumes nothing.
+-- `refusals::too_large` meets its contract: every byte passed is below p. Assumes nothing.
 use Prim.Native.Nat.{ℕ, _≤_, _<_, _-_}
 use native.Mathlib.Omega.{arith}
 use lib.ListN.{length, getD}

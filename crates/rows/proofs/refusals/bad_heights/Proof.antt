@@ -1,4 +1,4 @@
--- `rows::bad_heights` meets its contract: each test is a case of the refusal.
+-- `rows::refusals::bad_heights` meets its contract: each test is a case of the refusal.
 use mathlib.Core.Logic.{inl, inr, ⊎-elim}
 use native.Mathlib.Omega.{arith}
 use borrow.Author.Tests.{ltb-true, ltb-false}

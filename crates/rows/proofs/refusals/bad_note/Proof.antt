@@ -1,4 +1,4 @@
--- `rows::bad_note` meets its contract: each test is a case of the refusal, and where none of them holds the note is good.
+-- `rows::refusals::bad_note` meets its contract: each test is a case of the refusal, and where none of them holds the note is good.
 use mathlib.Core.Path.{sym, _∙_}
 use mathlib.Core.Logic.{inl, inr}
 use Prim.Native.Nat.{_+_}

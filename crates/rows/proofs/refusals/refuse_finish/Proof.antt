@@ -1,4 +1,4 @@
--- `rows::refuse_finish` meets its contract: it asks in the table's order.
+-- `rows::refusals::refuse_finish` meets its contract: it asks in the table's order.
 use mathlib.Core.Path.{_≡_, refl, sym, ap, subst, _∙_}
 use mathlib.Core.Logic.{_⊎_, inl, inr, ⊎-elim}
 use Prim.Native.Nat.{ℕ, suc, _≤_, _<_}

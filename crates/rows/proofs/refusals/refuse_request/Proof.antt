@@ -1,4 +1,4 @@
--- `rows::refuse_request` meets its contract: it asks in the table's order.
+-- `rows::refusals::refuse_request` meets its contract: it asks in the table's order.
 use mathlib.Core.Path.{refl, sym, _∙_}
 use mathlib.Core.Logic.{inl, inr, ⊎-elim}
 use mathlib.Core.List.{List}

@@ -1,4 +1,4 @@
--- `rows::refuse_start` meets its contract: the request's refusals come first, then that of the lent bytes.
+-- `rows::refusals::refuse_start` meets its contract: the request's refusals come first, then that of the lent bytes.
 use mathlib.Core.Path.{refl}
 use mathlib.Core.Logic.{inl, inr}
 use mathlib.Core.List.{List}

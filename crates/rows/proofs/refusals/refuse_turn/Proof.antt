@@ -1,4 +1,4 @@
--- `rows::refuse_turn` meets its contract: it asks in the table's order.
+-- `rows::refusals::refuse_turn` meets its contract: it asks in the table's order.
 use mathlib.Core.Path.{_≡_, refl, sym, ap, subst, _∙_}
 use mathlib.Core.Logic.{inl, inr}
 use native.Mathlib.Omega.{arith}
