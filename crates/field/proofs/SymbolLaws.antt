@@ -57,9 +57,6 @@ module _ (p : ℕ) where
   pub symbol-own : {n : ℕ} → n < p → symbol p n .byte ≡ n
   symbol-own {n} h = byte-symbol n ∙ mod-eq-of-lt h
 
-  pub symbol-same : (m n : ℕ) → m % p ≡ n % p → symbol p m ≡ symbol p n
-  symbol-same m n e = same-byte p (byte-symbol m ∙ e ∙ sym (byte-symbol n))
-
   -- a number below p is the byte of its symbol
   pub byte-is : {n : ℕ} (a : Element p) → n < p → symbol p n ≡ a → n ≡ a .byte
   byte-is a h e = sym (symbol-own h) ∙ ap (λ (x : Element p). x .byte) e

@@ -3,7 +3,7 @@
 --   prefixed g i        g + x^i y
 --   Fits N g i Q c      c fits after the i symbols that form g: it is a root, at x = 0, of Q at y = g + x^i y divided by its highest power
 --                       of x
--- The search keeps one curve, T = Q at y = g + y, and reads from it which symbols fit (`level-fits`, proofs/Fitting.antt).
+-- The search keeps one curve, T = Q at y = g + y, and reads from it which symbols fit (`level-fits`, proofs/search/Fitting.antt).
 --   chosen N i c T      T at y = c x^i + y: what T becomes when c is chosen as the symbol at x^i
 --   slice i v T         the coefficient of x^v in T at y = x^i y, as a polynomial in y
 --   least W test        the least number below W that passes the test, or W

@@ -1,5 +1,5 @@
 -- A text has one answer: two outcomes of `answer` on the same text and lent bytes leave the same bytes and the same length. The text has one
--- meaning, the list job one reply on it, and an reply one text.
+-- meaning, the list job one reply on it, and a reply one text.
 use mathlib.Core.Path.{_≡_, sym, subst}
 use mathlib.Core.List.{List}
 use Prim.Native.Nat.{ℕ}

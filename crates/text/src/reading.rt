@@ -6,7 +6,7 @@ ghost use Rattle.text.specs.Requests.{Number, Optional};
 ghost use Rattle.text.specs.Reading.{Seeks, Begins, Meant, ReadsNumbers, Found, Takes, TakesList};
 
 // Where a line's value stands: from `from` up to the line feed at `to`.
-pub struct Span {
+pub struct Standing {
     pub ok: bool,
     pub from: usize,
     pub to: usize,
@@ -88,7 +88,7 @@ fn begins(text: &[u8], at: usize, key: &[u8]) -> bool
 }
 
 // The line that starts at `at`, if it has this key.
-fn line_at(text: &[u8], at: usize, key: &[u8]) -> Span
+fn line_at(text: &[u8], at: usize, key: &[u8]) -> Standing
     requires { ⌜ at ≤ length (now text) ⌝ }
     ensures { λ r. ⌜ Found (now (key .entry)) (now (text .entry)) at (r .ok) (r .from) (r .to) ⌝ }
 {
@@ -96,10 +96,10 @@ fn line_at(text: &[u8], at: usize, key: &[u8]) -> Span
         let from = at + key.len();
         let to = seek(text, from, b'\n');
         if to < text.len() {
-            return Span { ok: true, from, to };
+            return Standing { ok: true, from, to };
         }
     }
-    Span {
+    Standing {
         ok: false,
         from: 0,
         to: 0,

@@ -46,8 +46,8 @@ module _ {plan : Plan} {i c : ℕ} {xs : List ℕ} (tries : Tries plan i c xs) {
   L = laws laid
 
   -- x^i fits in a slot
-  pub lift-inside : i < s
-  lift-inside =
+  pub level-inside : i < s
+  level-inside =
       let n = tries .next in
       let a = laid .fine .whole in
       let b : (plan .k - 1) * 1 ≤ (plan .k - 1) * plan .l = mul-le-mul-left (plan .k - 1) (omega arith) in
@@ -66,7 +66,7 @@ module _ {plan : Plan} {i c : ℕ} {xs : List ℕ} (tries : Tries plan i c xs) {
   pub subtracts : Subtracts p (negByte p c) (q * s + i) (suc q * s) (s - i) xs
   subtracts =
       let a = above in
-      let b = lift-inside in
+      let b = level-inside in
       let t = top in
       let r = laid .room in
       record {
@@ -86,7 +86,7 @@ module _ {plan : Plan} {i c : ℕ} {xs : List ℕ} (tries : Tries plan i c xs) {
     where
       go : Dec (a < q) → Dec (q < a) → (a < q) ⊎ ((suc q ≤ a) ⊎ (e < i)) → (a * s + e < q * s + i) ⊎ (q * s + i + (s - i) ≤ a * s + e)
       go (yes l) d o = let b = block-end s l in inl (omega arith)
-      go (no l) (yes g) o = let b = block-end s g in let h = lift-inside in inr (omega arith)
+      go (no l) (yes g) o = let b = block-end s g in let h = level-inside in inr (omega arith)
       go (no l) (no g) (inl o) = absurd (omega arith)
       go (no l) (no g) (inr (inl o)) = absurd (omega arith)
       go (no l) (no g) (inr (inr o)) = let z : a ≡ q = omega arith in let b = ap (λ (n : ℕ). n * s) z in inl (omega arith)
@@ -96,7 +96,7 @@ module _ {plan : Plan} {i c : ℕ} {xs : List ℕ} (tries : Tries plan i c xs) {
   byte-taken {e} h k =
       let x : q * s + e ≡ q * s + i + (e - i) = omega arith in
       let w = subtracts .target .within in
-      let l = lift-inside in
+      let l = level-inside in
       rw x (subtracted-symbol p (negByte p c) (q * s + i) (suc q * s) xs (s - i) (e - i) w (omega arith)
       ∙ rw (
         symbol-negByte p c,
@@ -157,7 +157,7 @@ module _ {plan : Plan} {i c : ℕ} {xs : List ℕ} (tries : Tries plan i c xs) {
   taken =
       let long = length-subtracted p (negByte p c) (q * s + i) (suc q * s) xs (s - i) in
       let a = above in
-      let b = lift-inside in
+      let b = level-inside in
       let t = top in
       record {
         laid = record { fine = laid .fine; room = let r = laid .room in omega arith; below = byte-small; light = light-taken };

@@ -2,7 +2,7 @@
 use native.Mathlib.Numerals.{add-one}
 use native.Mathlib.Omega.{arith}
 use borrow.Author.Needs.{needs}
-use Rattle.near.proofs.search.Shifting.{lift-inside, above, take-small, subtracts, taken}
+use Rattle.near.proofs.search.Shifting.{level-inside, above, take-small, subtracts, taken}
 use Rattle.near.proofs.search.take_above.Statement.{statement}
 use Rattle.near.proofs.search.take_above.Tie as tie
 
@@ -23,7 +23,7 @@ add-subtract c =
     let s = c .before .before .before .before in
     let p = s .pre in
     rw (add-one (s .args .plan .width))
-    (omega (arith, take-small (p .0) (p .1), above (p .0) (p .1), lift-inside (p .0) (p .1)))
+    (omega (arith, take-small (p .0) (p .1), above (p .0) (p .1), level-inside (p .0) (p .1)))
 
 add-subtract-2 : tie.Need-add-subtract-2
 add-subtract-2 c = search needs
@@ -37,7 +37,7 @@ mul-subtract-2 c =
 sub-subtract : tie.Need-sub-subtract
 sub-subtract c =
     let p = c .before .before .before .before .pre in
-    omega (arith, lift-inside (p .0) (p .1))
+    omega (arith, level-inside (p .0) (p .1))
 
 subtract-requires : tie.Need-subtract-requires
 subtract-requires c κs =
