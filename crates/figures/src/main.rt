@@ -1,5 +1,5 @@
-// Runs the figures of docs/RULES.md, section 18; what it prints is held against stdout. The starred ones are proved besides (specs/Figures.antt). A message or
-// a word is given as a decimal number, a digit for each symbol.
+// Runs the figures of docs/RULES.md, section 18; what it prints is held against stdout. The starred ones are proved besides
+// (specs/Figures.antt). A message or a word is given as a decimal number, a digit for each symbol.
 use libc::STDOUT_FILENO;
 use poly::limits::ALLOWANCE_MOST;
 use poly::limits::WORKING_ROOM;

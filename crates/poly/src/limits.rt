@@ -1,4 +1,5 @@
 // The limits of the numbers that a caller gives, and what follows from them: specs/Limits.antt has the same names.
+
 // The largest field size, and so the most points.
 pub const FIELD_MOST: usize = 31;
 
