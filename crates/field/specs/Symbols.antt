@@ -1,9 +1,10 @@
 -- The ten fields: the numbers below p, one byte each, with sums and products modulo p. Rules: section 2.
---   among list p        p is among the numbers of a list; sizes  the ten field sizes
+--   or a b              one of the two; among list p  p is among the numbers of a list; sizes  the ten field sizes
 --   listed p, Listed p  p is one of the ten: as a test, and as a fact that brings p's bounds
 --   Element p           a symbol, that is, a number that is its own remainder modulo p
 --   symbol p n          the symbol of a number; same-byte  symbols of one byte are one symbol
 --   sumOf, productOf, negativeOf   the operations: those on numbers, and then the remainder modulo p
+--   select test a b     a where the test passes, else b; find n test  the largest number below n that passes the test, or 0
 --   inverseOf           the symbol of inverseNumber p a, the number below p whose product with a leaves 1, or 0 if there is none
 --   sameSymbol          whether two symbols are the same
 --   symbols p           the symbols with their operations; a field where p is listed (proofs/SymbolLaws.antt)
