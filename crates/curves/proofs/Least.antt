@@ -85,56 +85,48 @@ module _ {F : Field} (Φ : FieldLaws F) where
   pub monic-at : (u w s : ℕ) (Q : Curve R) (j i : ℕ) → monic F u w s Q j i ≡ F .inv (Q s (w - u * s)) ⊗ Q j i
   monic-at u w s Q j i = let c = F .inv (Q s (w - u * s)) in xTimes-mono L c 0 Q j i ∙ ap (λ (x : Car). c ⊗ x) (delay-zero R (Q j) i)
 
-  pub monic-lead : {u w s : ℕ} {Q : Curve R} → Lead R u w s Q → (p : Lead R u w s (monic F u w s Q)) × (monic F u w s Q s (p .degree) ≡ 𝟙)
-  monic-lead {u} {w} {s} {Q} p = (
-    record {
-      degree = p .degree;
-      weight = p .weight;
-      nonzero = λ z. Φ .one≢zero (sym one ∙ z);
-      rest = λ j i le f. monic-at u w s Q j i ∙ ap (λ (x : Car). c ⊗ x) (p .rest j i le f) ∙ mul-zero L c;
-    },
-    one,
-  )
-    where
-      c : Car
-      c = F .inv (Q s (w - u * s))
-
-      one : monic F u w s Q s (p .degree) ≡ 𝟙
-      one =
-          let pw = p .weight in
-          let d : p .degree ≡ w - u * s = omega arith in
-          monic-at u w s Q s (p .degree) ∙ mul-comm L c (Q s (p .degree)) ∙ ap (λ n. Q s (p .degree) ⊗ F .inv (Q s n)) (sym d)
-          ∙ Φ .inverse (Q s (p .degree)) (p .nonzero)
-
-  -- a curve made monic weighs the same, is zero where it was, and is as high
-  pub monic-weight : {u w s v t : ℕ} {Q : Curve R} → Lead R u w s Q → Lead R u v t (monic F u w s Q) → v ≡ w
-  monic-weight p q = lead-unique q (monic-lead p .0) .0
-
   monic-null : (u w s : ℕ) (Q : Curve R) (j i : ℕ) → Q j i ≡ 𝟘 → monic F u w s Q j i ≡ 𝟘
   monic-null u w s Q j i z = monic-at u w s Q j i ∙ ap (λ (x : Car). F .inv (Q s (w - u * s)) ⊗ x) z ∙ mul-zero L _
 
-  null-monic : {u w s : ℕ} {Q : Curve R} → Lead R u w s Q → (j i : ℕ) → monic F u w s Q j i ≡ 𝟘 → Q j i ≡ 𝟘
-  null-monic {u} {w} {s} {Q} p j i z =
-      no-zero-divisor Φ c (Q j i) (λ y. Φ .one≢zero (sym one ∙ ap (λ (t : Car). x ⊗ t) y ∙ mul-zero L x)) (sym (monic-at u w s Q j i) ∙ z)
-    where
-      x : Car
-      x = Q s (w - u * s)
+  -- a curve made monic leads with the same term, whose coefficient is 1; it is zero where it was, and as high
+  module _ {u w s : ℕ} {Q : Curve R} (p : Lead R u w s Q) where
+    abbrev x : Car
+    x = Q s (w - u * s)
 
-      c : Car
-      c = F .inv x
+    degree-is : p .degree ≡ w - u * s
+    degree-is = let e = p .weight in omega arith
 
-      one : x ⊗ c ≡ 𝟙
-      one =
-          let pw = p .weight in
-          let d : w - u * s ≡ p .degree = omega arith in
-          Φ .inverse x (λ y. p .nonzero (ap (Q s) (sym d) ∙ y))
+    unit : x ⊗ F .inv x ≡ 𝟙
+    unit = Φ .inverse x (λ z. p .nonzero (ap (Q s) degree-is ∙ z))
 
-  pub monic-height : {u w s j : ℕ} {Q : Curve R} → Lead R u w s Q → HasHeight R Q j → HasHeight R (monic F u w s Q) j
-  monic-height {u} {w} {s} {j} {Q} p h =
+    monic-top : monic F u w s Q s (p .degree) ≡ 𝟙
+    monic-top = monic-at u w s Q s (p .degree) ∙ ap (λ n. F .inv x ⊗ Q s n) degree-is ∙ mul-comm L (F .inv x) x ∙ unit
+
+    pub monic-lead : (q : Lead R u w s (monic F u w s Q)) × (monic F u w s Q s (q .degree) ≡ 𝟙)
+    monic-lead = (
       record {
-        above = λ i e k. monic-null u w s Q i e (h .above i e k);
-        some = let (e, n) = h .some in (e, λ z. n (null-monic p j e z));
-      }
+        degree = p .degree;
+        weight = p .weight;
+        nonzero = λ z. Φ .one≢zero (sym monic-top ∙ z);
+        rest = λ j i le f. monic-null u w s Q j i (p .rest j i le f);
+      },
+      monic-top,
+    )
+
+    pub monic-weight : {v t : ℕ} → Lead R u v t (monic F u w s Q) → v ≡ w
+    monic-weight q = lead-unique q (monic-lead .0) .0
+
+    null-monic : (j i : ℕ) → monic F u w s Q j i ≡ 𝟘 → Q j i ≡ 𝟘
+    null-monic j i z =
+        no-zero-divisor Φ (F .inv x) (Q j i) (λ y. Φ .one≢zero (sym unit ∙ ap (λ (t : Car). x ⊗ t) y ∙ mul-zero L x))
+        (sym (monic-at u w s Q j i) ∙ z)
+
+    pub monic-height : {j : ℕ} → HasHeight R Q j → HasHeight R (monic F u w s Q) j
+    monic-height {j} h =
+        record {
+          above = λ i e k. monic-null u w s Q i e (h .above i e k);
+          some = let (e, n) = h .some in (e, λ z. n (null-monic j e z));
+        }
 
   module _ {u W l : ℕ} {rows : ℕ → Curve R} (g : Sound R u W l (suc l) rows) where
     own : (i : ℕ) → i < suc l → LeadsAt R u i (rows i)

@@ -27,7 +27,7 @@ use Rattle.rows.specs.declared.Finished.{Finished}
 use Rattle.rows.proofs.Placing.{in-rows, in-curve}
 use Rattle.rows.proofs.Accepted.{Accepted, start-accepted}
 
--- start: what is handed back is the same where its fields are
+-- what start hands back is the same where its fields are
 pub started-same : {a b : Started} → a .number ≡ b .number → a .note ≡ b .note → a ≡ b
 started-same e d = ap₂ (λ (x : ℕ) (y : Note). record { number = x; note = y }) e d
 
@@ -60,7 +60,7 @@ module _ {p : ℕ} {points word : List ℕ} {k m l : ℕ} {before : List ℕ} wh
           let y = g .refused (λ e. z (same ∙ e)) in
           (started-same same (x .0 ∙ sym (y .0)), x .1 ∙ sym (y .1))
 
--- turn
+-- and what a turn hands back
 pub turned-same : {a b : Turned} → a .number ≡ b .number → a .note ≡ b .note → a .updates ≡ b .updates → a ≡ b
 turned-same {a} {b} n m u =
     ap (λ (x : ℕ). record { number = x; note = a .note; updates = a .updates }) n
@@ -116,7 +116,7 @@ module _ {note : Note} {allowance : ℕ} {before : List ℕ} where
       let e = turn-determined f g in
       (ap (λ (t : Turned). record { number = t .number; updates = t .updates }) (e .0), ap (λ (t : Turned). t .note) (e .0), e .1)
 
--- finish: what is handed over is only one
+-- what finish hands over is only one
 module _ {S : Shape} {rows : ℕ → Curve (symbols (S .p) .ring)} {curve also : List ℕ} {w h v g : ℕ} (a : Hands S rows curve w h)
     (b : Hands S rows also v g) where
   hands-same : (a .row ≡ b .row) × (w ≡ v)
@@ -131,7 +131,7 @@ module _ {S : Shape} {rows : ℕ → Curve (symbols (S .p) .ring)} {curve also :
       let e = hands-same in
       rw (c .is) (a .bytes (c .power) (c .degree) (c .low) (c .short) ∙ rw (e .0, e .1) (sym (b .bytes (c .power) (c .degree) (c .low) (c .short))))
 
--- what is handed back is the same where its fields are
+-- and what it hands back is the same where its fields are
 pub finished-same : {a b : Finished} → a .number ≡ b .number → a .weight ≡ b .weight → a .height ≡ b .height → a ≡ b
 finished-same {a} {b} n w h =
     ap (λ (x : ℕ). record { number = x; weight = a .weight; height = a .height }) n
