@@ -6,7 +6,7 @@ use native.Mathlib.Omega.{arith}
 use native.Mathlib.Decide.{decLt}
 use Rattle.field.specs.Field.{Ring, RingLaws, Field, FieldLaws}
 use Rattle.field.proofs.Sums.{pow-zero, prod-one, prod-pow}
-use Rattle.poly.specs.Polynomials.{Seq, Series, negS, mulS, oneS, lin, Below, Distinct, Through, locator}
+use Rattle.poly.specs.Polynomials.{Seq, Series, negS, mulS, oneS, lin, Below, Through, locator}
 use Rattle.poly.proofs.Series.{series}
 use Rattle.poly.proofs.Bounds.{below-same, below-neg}
 use Rattle.poly.proofs.Parts.{drop, join, join-low, join-high, parts-ext}
@@ -14,6 +14,7 @@ use Rattle.poly.proofs.Shift.{shift, shift-back, shift-forth, below-shift}
 use Rattle.poly.proofs.Orders.{Ord, Vanish}
 use Rattle.poly.proofs.Degrees.{sumBelow}
 use Rattle.poly.proofs.CoprimePowers.{factorAt, factorsAt, monic-factorsAt, Apart, distinct-apart, Divides, factorsAt-divide, factorsAt-order}
+use Rattle.poly.proofs.CoprimePowers.{Distinct}
 use Rattle.curves.specs.Curves.{Curve, Finite, Height, Span, Passing}
 use Rattle.curves.specs.Start.{startRow}
 use Rattle.curves.proofs.Spans.{span-row}

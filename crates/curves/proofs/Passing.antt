@@ -6,8 +6,9 @@ use mathlib.Core.List.{List, [], _∷_}
 use Prim.Native.Nat.{ℕ, suc, _+_, _-_, _*_, _≤_, _<_, min}
 use native.Mathlib.Omega.{arith}
 use Rattle.field.specs.Field.{Field, FieldLaws}
-use Rattle.poly.specs.Polynomials.{Seq, Distinct, Through, locator}
+use Rattle.poly.specs.Polynomials.{Seq, Through, locator}
 use Rattle.poly.proofs.Interpolation.{interpolate}
+use Rattle.poly.proofs.CoprimePowers.{Distinct}
 use Rattle.curves.specs.Curves.{Curve, Span, Smallest, Passing}
 use Rattle.curves.specs.Start.{startRow, total}
 use Rattle.curves.specs.Turns.{Outcome}

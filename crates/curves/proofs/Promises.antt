@@ -14,10 +14,11 @@ use Prim.Native.Nat.{ℕ, zero, suc, _+_, _*_, _≤_, _<_}
 use lib.ListN.{length}
 use Rattle.field.specs.Field.{Ring, Field}
 use Rattle.poly.specs.Polynomials.{Below}
-use Rattle.curves.specs.Curves.{Curve, Height, Under, Same}
+use Rattle.curves.specs.Curves.{Curve, Height, Under}
 use Rattle.curves.specs.Start.{total}
 use Rattle.curves.specs.Turns.{Outcome, stops, Turn}
 use Rattle.curves.specs.Entry.{Sound}
+use Rattle.curves.proofs.Spans.{Same}
 
 unfoldable pub allowed : List ℕ → ℕ
 allowed [] = 0

@@ -1,6 +1,7 @@
 -- Sums of rows, each times a polynomial in x: the rows themselves, sums, multiples, and spans within spans.
 -- A span is used through these lemmas only.
 use mathlib.Core.Path.{_≡_, sym, ap, ap₂, _∙_, fun-ext}
+use mathlib.Core.Logic.{_↔_}
 use mathlib.Core.List.{[], _∷_}
 use Prim.Native.Nat.{ℕ, zero, suc, _+_, _<_}
 use native.Mathlib.Omega.{arith}
@@ -16,15 +17,19 @@ use Rattle.poly.proofs.Series.{series, readings, zeroS-at}
 use Rattle.poly.proofs.Constants.{const-one}
 use Rattle.poly.proofs.Bounds.{below-add, below-mul, below-const}
 use Rattle.poly.proofs.Monomials.{delay, delay-zero, mono-below}
-use Rattle.curves.specs.Curves.{Curve, xTimes, Span, Same}
+use Rattle.curves.specs.Curves.{Curve, xTimes, Span}
 use Rattle.curves.specs.Turns.{cross}
 use Rattle.curves.proofs.Crossing.{xTimes-mono, cross-at}
 
 module _ (R : Ring) (n : ℕ) where
-  pub same-refl : (rows : ℕ → Curve R) → Same R n rows rows
+  -- the first n rows span the same curves as the first n new ones
+  abbrev pub Same : (ℕ → Curve R) → (ℕ → Curve R) → Type 0
+  Same rows new = (Q : Curve R) → Span R n rows Q ↔ Span R n new Q
+
+  pub same-refl : (rows : ℕ → Curve R) → Same rows rows
   same-refl rows Q = (λ x. x, λ x. x)
 
-  pub same-trans : (rows new newer : ℕ → Curve R) → Same R n rows new → Same R n new newer → Same R n rows newer
+  pub same-trans : (rows new newer : ℕ → Curve R) → Same rows new → Same new newer → Same rows newer
   same-trans rows new newer p q Q = (λ x. q Q .0 (p Q .0 x), λ x. p Q .1 (q Q .1 x))
 
 module _ {R : Ring} (L : RingLaws R) where

@@ -9,10 +9,11 @@ use native.Mathlib.Nat.{sub-zero, mul-le-mul-left, mul-le-mul-right}
 use Rattle.field.specs.Field.{Ring, RingLaws, pow, Field, FieldLaws}
 use Rattle.field.proofs.RingLaws.{mul-one}
 use Rattle.field.proofs.Sums.{pow-zero}
-use Rattle.poly.specs.Polynomials.{Seq, Series, constS, xS, lin, Below, Through, locator, Distinct}
+use Rattle.poly.specs.Polynomials.{Seq, Series, constS, xS, lin, Below, Through, locator}
 use Rattle.poly.proofs.Series.{series}
 use Rattle.poly.proofs.Degrees.{Monic, monic-same, monic-pow, monic-locator}
 use Rattle.poly.proofs.Interpolation.{interpolate}
+use Rattle.poly.proofs.CoprimePowers.{Distinct}
 use Rattle.curves.specs.Curves.{Curve, Zero, Under, Lead, Smallest, Passing}
 use Rattle.curves.specs.Start.{startRow}
 use Rattle.curves.specs.Entry.{Sound}

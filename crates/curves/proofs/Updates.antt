@@ -8,11 +8,11 @@ use Rattle.field.specs.Field.{Ring, RingLaws, Field, FieldLaws}
 use Rattle.field.specs.Choices.{choose, put}
 use Rattle.field.proofs.RingLaws.{zero-mul, mul-assoc, mul-comm, mul-one}
 use Rattle.field.proofs.Choices.{put-same, put-other}
-use Rattle.curves.specs.Curves.{Curve, Height, Under, Lead, Span, Same}
+use Rattle.curves.specs.Curves.{Curve, Height, Under, Lead, Span}
 use Rattle.curves.specs.Turns.{cross, Due, ratio, update}
 use Rattle.curves.proofs.Leads.{Smaller, ZeroOrLeads, under-mono, lead-smaller, lead?}
 use Rattle.curves.proofs.Crossing.{cross-height, cross-under}
-use Rattle.curves.proofs.Spans.{span-row, span-trans, span-cross, span-uncross-left, span-uncross-right}
+use Rattle.curves.proofs.Spans.{span-row, span-trans, span-cross, span-uncross-left, span-uncross-right, Same}
 
 -- the new row s: it stays, or the old row r takes its place
 abbrev pub Swapped : (R : Ring) → ℕ → ℕ → Curve R → Curve R → Curve R → Type 0

@@ -8,14 +8,14 @@ use native.Mathlib.Decide.{decLe, ℕ-discrete}
 use Rattle.field.specs.Field.{Ring, RingLaws, pow, Field, FieldLaws}
 use Rattle.field.proofs.RingLaws.{mul-one, one-mul, neg-zero}
 use Rattle.field.proofs.Sums.{pow-zero, prod-pow}
-use Rattle.poly.specs.Polynomials.{Seq, Series, zeroS, oneS, xS, lin, Distinct, Through, locator}
+use Rattle.poly.specs.Polynomials.{Seq, Series, zeroS, oneS, xS, lin, Through, locator}
 use Rattle.poly.proofs.Series.{series, zeroS-at}
 use Rattle.poly.proofs.Constants.{xPlus, xPlus-none, xPlus-neg, const-one, power-same, power-other}
 use Rattle.poly.proofs.Bounds.{below-null, below-one}
 use Rattle.poly.proofs.Evaluation.{value-null}
 use Rattle.poly.proofs.Shift.{shift-none}
 use Rattle.poly.proofs.Degrees.{sumBelow, degree, monic-pow, monic-locator}
-use Rattle.poly.proofs.CoprimePowers.{Divides, distinct-apart, divides-degree}
+use Rattle.poly.proofs.CoprimePowers.{Divides, distinct-apart, divides-degree, Distinct}
 use Rattle.curves.specs.Curves.{Curve, Lead, AtMost, Smallest, Passing}
 use Rattle.curves.specs.Start.{startRow}
 use Rattle.curves.proofs.Spans.{span-row}

@@ -10,7 +10,6 @@
 --   LeadsAt u s Q    Q leads at y^s
 --   xTimes q Q       the x-polynomial q times Q
 --   Span n rows Q    Q is a sum of the first n rows, each times a polynomial in x
---   Same n rows new  the first n rows span the same curves as the first n new ones
 --   Smallest         of the curves of a set, the monic nonzero one with the smallest leading term
 -- Multiplicity at a point is by the coefficients of Q (x + a, y + b), with their binomials.
 --   shifted M N a b Q i j     the coefficient of x^i y^j in Q (x + a, y + b), Q having fewer than M powers of x and N of y
@@ -18,7 +17,7 @@
 --   Passing n m l a v Q       Q is zero or one of the curves of demand 2: height at most l, and at each of the n received points
 --                             (a_s, v_s) multiplicity at least m
 use mathlib.Core.Path.{_≡_}
-use mathlib.Core.Logic.{_≢_, _↔_}
+use mathlib.Core.Logic.{_≢_}
 use Prim.Native.Nat.{ℕ, suc, _+_, _-_, _*_, _≤_, _<_}
 use Rattle.field.specs.Field.{Ring, pow, multiple, sum}
 use Rattle.poly.specs.Polynomials.{Seq, Series, scaleS, Below, binomial}
@@ -63,9 +62,6 @@ module _ (R : Ring) where
     pub factor : ℕ → Seq R
     pub finite : (i : ℕ) → (N : ℕ) × Below R N (factor i)
     pub is : Q ≡ sum (Series (Series R)) n (λ i. xTimes (factor i) (rows i))
-
-  abbrev pub Same : ℕ → (ℕ → Curve) → (ℕ → Curve) → Type 0
-  Same n rows new = (Q : Curve) → Span n rows Q ↔ Span n new Q
 
   pub record Smallest (u : ℕ) (Member : Curve → Type 0) (Q : Curve) : Type 0 where
     pub member : Member Q

@@ -9,8 +9,8 @@ use native.Mathlib.Omega.{arith}
 use lib.ListN.{length, getD, set}
 use lib.Seq.{length-sets}
 use Rattle.field.specs.Lists.{tabulate}
-use Rattle.field.specs.Symbols.{Listed, symbol, sumOf, productOf, negativeOf}
-use Rattle.field.specs.Operations.{minusBytes, timesBytes}
+use Rattle.field.specs.Symbols.{symbol, sumOf, productOf, negativeOf}
+use Rattle.field.specs.Operations.{minusBytes, timesBytes, Listed}
 use Rattle.field.specs.Kernels.{Subtracts, Scales, subtracted, scaled}
 use Rattle.field.proofs.Lists.{sets-tabulate-zero, sets-tabulate-suc, sets-tabulate-inside, sets-tabulate-outside}
 use Rattle.field.proofs.OperationLaws.{symbol-minusBytes, symbol-timesBytes, times-mod, minus-times-mod, minusBytes-below, timesBytes-below}

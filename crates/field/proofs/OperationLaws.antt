@@ -3,8 +3,8 @@ use mathlib.Core.Path.{_≡_}
 use Prim.Native.Nat.{ℕ, _+_, _-_, _*_, _%_, _<_}
 use native.Mathlib.Nat.{mod-eq-of-lt, mod-add-mod, add-mod-mod}
 use native.Mathlib.Omega.{arith}
-use Rattle.field.specs.Symbols.{Listed, symbol, sumOf, productOf, negativeOf, inverseOf}
-use Rattle.field.specs.Operations.{plusBytes, minusBytes, timesBytes, negByte, invByte}
+use Rattle.field.specs.Symbols.{symbol, sumOf, productOf, negativeOf, inverseOf}
+use Rattle.field.specs.Operations.{plusBytes, minusBytes, timesBytes, negByte, invByte, Listed}
 use Rattle.field.proofs.RingLaws.{neg-mul}
 use Rattle.field.proofs.SymbolLaws.{mod-mul, mul-mod, byte-symbol, symbol-byte, symbol-plus, symbol-times, symbol-opposite, symbols-ring}
 use Rattle.field.proofs.SymbolLaws.{byte-below}

@@ -9,8 +9,9 @@ use native.Mathlib.Nat.{add-mod-mod, mod-self, zero-mod, div-add-mod, mul-add-mo
 use native.Mathlib.Omega.{arith}
 use lib.Dec.{T, eqb, eqb→eq}
 use Rattle.field.specs.Field.{RingLaws, FieldLaws}
-use Rattle.field.specs.Symbols.{or, listed, Listed, Element, symbol, same-byte, inverseNumber, sumOf, productOf, negativeOf, inverseOf}
+use Rattle.field.specs.Symbols.{or, listed, Element, symbol, same-byte, inverseNumber, sumOf, productOf, negativeOf, inverseOf}
 use Rattle.field.specs.Symbols.{sameSymbol, symbols}
+use Rattle.field.specs.Operations.{Listed}
 use Rattle.field.proofs.FieldLaws.{cancel}
 use Rattle.field.proofs.Tests.{all, all-at, or-cases, or-right}
 
@@ -38,7 +39,7 @@ pub is-listed : {p : ℕ} → listed p ≡ true → Listed p
 is-listed {p} e =
     let t : T (listed p) = rw e tt in
     record {
-      listed = t;
+      is = t;
       small = at-listed (λ p. p < 32) (omega arith) (omega arith) (omega arith) (omega arith) (omega arith) (omega arith) (omega arith)
           (omega arith) (omega arith) (omega arith) p t;
       large = at-listed (λ p. 2 < p) (omega arith) (omega arith) (omega arith) (omega arith) (omega arith) (omega arith) (omega arith) (omega arith)
@@ -168,7 +169,7 @@ module _ {p : ℕ} (l : Listed p) where
     where
       test : T (eqb (a .byte * inverseNumber p (a .byte) % p) 1)
       test =
-          or-right (eqb (a .byte) 0) _ (all-at p (inverted p) (invertible p (l .listed)) (a .byte) (byte-below a))
+          or-right (eqb (a .byte) 0) _ (all-at p (inverted p) (invertible p (l .is)) (a .byte) (byte-below a))
           (λ z. byte-nonzero a n (eqb→eq (a .byte) 0 z))
 
   one≢zero : symbol p 1 ≢ symbol p 0
@@ -177,7 +178,7 @@ module _ {p : ℕ} (l : Listed p) where
   -- the inverse of 0 is given as 0
   pub inverse-zero : inverseOf p (symbol p 0) ≡ symbol p 0
   unfolding inverseOf symbol
-  inverse-zero = at-listed (λ p. inverseOf p (symbol p 0) ≡ symbol p 0) refl refl refl refl refl refl refl refl refl refl p (l .listed)
+  inverse-zero = at-listed (λ p. inverseOf p (symbol p 0) ≡ symbol p 0) refl refl refl refl refl refl refl refl refl refl p (l .is)
 
 pub symbols-field : (p : ℕ) → Listed p → FieldLaws (symbols p)
 symbols-field p l = record { ring = symbols-ring p (some l); inverse = product-inverse l; one≢zero = one≢zero l }

@@ -1,6 +1,6 @@
 -- The ten fields: the numbers below p, one byte each, with sums and products modulo p. Rules: section 2.
 --   or a b              one of the two; among list p  p is among the numbers of a list; sizes  the ten field sizes
---   listed p, Listed p  p is one of the ten: as a test, and as a fact that brings p's bounds
+--   listed p            whether p is one of the ten
 --   Element p           a symbol, that is, a number that is its own remainder modulo p
 --   symbol p n          the symbol of a number; same-byte  symbols of one byte are one symbol
 --   sumOf, productOf, negativeOf   the operations: those on numbers, and then the remainder modulo p
@@ -13,10 +13,10 @@ use mathlib.Core.Path.{_≡_, ap}
 use mathlib.Core.Bool.{Bool, true, false}
 use mathlib.Core.List.{List, [], _∷_}
 use mathlib.Core.HLevel.{Σ-prop-path, hedberg}
-use Prim.Native.Nat.{ℕ, zero, suc, _+_, _-_, _*_, _%_, _<_}
+use Prim.Native.Nat.{ℕ, zero, suc, _+_, _-_, _*_, _%_}
 use native.Mathlib.Nat.{mod-mod}
 use native.Mathlib.Decide.{ℕ-discrete}
-use lib.Dec.{T, eqb}
+use lib.Dec.{eqb}
 use lib.ListN.{getD}
 use Rattle.field.specs.Field.{Field}
 
@@ -33,11 +33,6 @@ sizes = 3 ∷ 5 ∷ 7 ∷ 11 ∷ 13 ∷ 17 ∷ 19 ∷ 23 ∷ 29 ∷ 31 ∷ []
 
 unfoldable pub listed : ℕ → Bool
 listed = among sizes
-
-pub record Listed (p : ℕ) : Type 0 where
-  pub listed : T (listed p)
-  pub small : p < 32
-  pub large : 2 < p
 
 pub record Element (p : ℕ) : Type 0 where
   pub byte : ℕ

@@ -1,8 +1,8 @@
 // Symbols: the numbers 0 to p-1, one byte each, where p is one of the ten field sizes.
 ghost use mathlib.Core.Path.{_≡_};
 ghost use Prim.Native.Nat.{_+_, _/_, _%_};
-ghost use Rattle.field.specs.Symbols.{listed, Listed};
-ghost use Rattle.field.specs.Operations.{Operand, Operands, plusBytes, minusBytes, timesBytes, negByte, invByte};
+ghost use Rattle.field.specs.Symbols.{listed};
+ghost use Rattle.field.specs.Operations.{Operand, Operands, plusBytes, minusBytes, timesBytes, negByte, invByte, Listed};
 ghost use Rattle.field.specs.Kernels.{Subtracts, Scales, Reduces, subtracted, scaled};
 
 mod inverses; // inverses.rt: the table of inverses

@@ -8,13 +8,15 @@ use native.Mathlib.Omega.{arith}
 use lib.Dec.{T, eqb, ltb, ltb→lt, eqb→eq, eqb-refl, T-not}
 use lib.ListN.{length, getD, List·getD-eq-default}
 use Rattle.field.specs.Field.{FieldLaws}
-use Rattle.field.specs.Symbols.{Listed, listed, symbol, symbols, same-byte, symbolsOf}
+use Rattle.field.specs.Symbols.{listed, symbol, symbols, same-byte, symbolsOf}
+use Rattle.field.specs.Operations.{Listed}
 use Rattle.field.proofs.SymbolLaws.{symbols-field}
 use Rattle.field.proofs.Tests.{all, all-at}
-use Rattle.poly.specs.Polynomials.{value, Distinct, Through}
+use Rattle.poly.specs.Polynomials.{value, Through}
 use Rattle.poly.specs.Table.{Repeated}
 use Rattle.poly.specs.Buffers.{AllBelow, Places}
 use Rattle.poly.proofs.Interpolating.{places-distinct}
+use Rattle.poly.proofs.CoprimePowers.{Distinct}
 use Rattle.curves.specs.Curves.{Curve}
 use Rattle.rows.specs.Bytes.{slot, rowsBytes, HoldsCurve}
 use Rattle.rows.specs.Demands.{shapeFor}
@@ -24,7 +26,7 @@ use Rattle.figures.specs.Figures.{three, atThree}
 
 pub seven : Listed 7
 unfolding listed
-seven = record { listed = tt; small = omega arith; large = omega arith }
+seven = record { is = tt; small = omega arith; large = omega arith }
 
 pub seven-laws : FieldLaws (symbols 7)
 seven-laws = symbols-field 7 seven

@@ -1,16 +1,17 @@
 -- The numbers that start and list give: the first line of their tables that applies, and that none does where a request is in order.
 use mathlib.Core.Path.{_≡_, refl, ap, _∙_}
+use mathlib.Core.Bool.{false}
 use mathlib.Core.Logic.{_⊎_, inl, inr, ⊎-elim}
 use mathlib.Core.List.{List}
 use Prim.Native.Nat.{ℕ, suc, _*_, _≤_, _<_}
 use native.Mathlib.Omega.{arith}
 use lib.ListN.{length}
 use borrow.Author.Needs.{needs}
-use Rattle.field.specs.Symbols.{Listed, listed}
+use Rattle.field.specs.Symbols.{listed}
 use Rattle.poly.specs.Table.{First, BadHeights}
 use Rattle.poly.specs.Encode.{encodeTable}
 use Rattle.poly.specs.Limits.{workingRoom}
-use Rattle.poly.proofs.TableLaws.{first-determined, first-goes, none-large, good-count, good-degree}
+use Rattle.poly.proofs.TableLaws.{first-determined, first-goes, not-unlisted, none-large, good-count, good-degree}
 use Rattle.rows.specs.Jobs.{startTable, requestTable}
 use Rattle.rows.proofs.Accepted.{Accepted}
 use Rattle.near.specs.Job.{listTable}
@@ -33,7 +34,7 @@ module _ {p : ℕ} {points word : List ℕ} {k m l : ℕ} {lent : List ℕ} (a :
   -- the seven lines that both tables begin with
   request-goes : First (requestTable p points word k m l) 0
   request-goes =
-      (λ n. n (a .places .size))
+      not-unlisted (a .places .size)
       ⊳ good-count (a .some) (a .places .count)
       ⊳ (λ n. n (a .places .same))
       ⊳ good-degree (a .low) (a .degree)
@@ -69,9 +70,9 @@ module _ {p : ℕ} {points word : List ℕ} {k m l t : ℕ} where
             ap (λ (x : Near). x .number) (h .refused (λ z. omega arith) .0) ∙ e;
       }
 
-nine : Listed 9 → ⊥
+nine : listed 9 ≡ false
 unfolding listed
-nine l = l .listed
+nine = refl
 
 module _ (points word : List ℕ) where
   pub p-9 : (k m l t : ℕ) → EncodeGives 1 9 points k × Refused 1 9 points word k m l t
@@ -79,20 +80,20 @@ module _ (points word : List ℕ) where
 
   pub n-2 : (k m l t : ℕ) → length points ≡ 2 → EncodeGives 2 7 points k × Refused 2 7 points word k m l t
   n-2 k m l t two = (
-    encode-gives 1 (λ message lent e. (λ n. n seven) ⊳ inl (inl (omega arith), refl)),
-    refused 1 (λ lent. (λ n. n seven) ⊳ inl (inl (omega arith), refl)) (λ room messages. (λ n. n seven) ⊳ inl (inl (omega arith), refl)),
+    encode-gives 1 (λ message lent e. not-unlisted seven ⊳ inl (inl (omega arith), refl)),
+    refused 1 (λ lent. not-unlisted seven ⊳ inl (inl (omega arith), refl)) (λ room messages. not-unlisted seven ⊳ inl (inl (omega arith), refl)),
   )
 
   module _ (some : 3 ≤ length points) (most : length points ≤ 7) (same : length word ≡ length points) where
     pub k-n : (m l t : ℕ) → EncodeGives 4 7 points (length points) × Refused 4 7 points word (length points) m l t
     k-n m l t = (
-      encode-gives 3 (λ message lent e. (λ n. n seven) ⊳ good-count some most ⊳ inl (inr (omega arith), refl)),
-      refused 3 (λ lent. (λ n. n seven) ⊳ good-count some most ⊳ (λ n. n same) ⊳ inl (inr (omega arith), refl))
-          (λ room messages. (λ n. n seven) ⊳ good-count some most ⊳ (λ n. n same) ⊳ inl (inr (omega arith), refl)),
+      encode-gives 3 (λ message lent e. not-unlisted seven ⊳ good-count some most ⊳ inl (inr (omega arith), refl)),
+      refused 3 (λ lent. not-unlisted seven ⊳ good-count some most ⊳ (λ n. n same) ⊳ inl (inr (omega arith), refl))
+          (λ room messages. not-unlisted seven ⊳ good-count some most ⊳ (λ n. n same) ⊳ inl (inr (omega arith), refl)),
     )
 
     pub l-9 : (k m t : ℕ) → 2 ≤ k → k < length points → Refused 5 7 points word k m 9 t
     l-9 k m t low degree =
-        refused 4 (λ lent. (λ n. n seven) ⊳ good-count some most ⊳ (λ n. n same) ⊳ good-degree low degree ⊳ inl
+        refused 4 (λ lent. not-unlisted seven ⊳ good-count some most ⊳ (λ n. n same) ⊳ good-degree low degree ⊳ inl
         (inr (inr (inr (omega arith))), refl))
-        (λ room messages. (λ n. n seven) ⊳ good-count some most ⊳ (λ n. n same) ⊳ good-degree low degree ⊳ inl (inr (inr (inr (omega arith))), refl))
+        (λ room messages. not-unlisted seven ⊳ good-count some most ⊳ (λ n. n same) ⊳ good-degree low degree ⊳ inl (inr (inr (inr (omega arith))), refl))

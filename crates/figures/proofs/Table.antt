@@ -12,7 +12,7 @@ use Rattle.field.proofs.Tests.{all, all-at}
 use Rattle.poly.specs.Polynomials.{value}
 use Rattle.poly.specs.Table.{First}
 use Rattle.poly.specs.Encode.{encodeTable, valueAt}
-use Rattle.poly.proofs.TableLaws.{first-determined, none-large, good-count, good-degree}
+use Rattle.poly.proofs.TableLaws.{first-determined, not-unlisted, none-large, good-count, good-degree}
 use Rattle.rows.specs.Jobs.{startTable}
 use Rattle.figures.specs.Figures.{six, Encodes, Calls, three, atThree, word-0-0-1, Figures}
 use Rattle.figures.proofs.Computed.{seven, small, all-below, all-different, at-three}
@@ -37,7 +37,7 @@ encodes message word k below long values before after number room e =
   where
     passes : First (encodeTable 7 six message before) 0
     passes =
-        (λ n. n seven)
+        not-unlisted seven
         ⊳ good-count (omega arith) (omega arith)
         ⊳ good-degree (omega arith) (omega arith)
         ⊳ ⊎-elim (none-large (all-below six tt)) (none-large (all-below message below))

@@ -5,14 +5,14 @@ use Prim.Native.Nat.{ℕ, zero, suc, _+_, _-_, _*_, _≤_, _<_}
 use native.Mathlib.Nat.{mul-zero, mul-add, mul-le-mul-left}
 use native.Mathlib.Omega.{arith}
 use Rattle.field.specs.Field.{Ring, RingLaws, Field, FieldLaws}
-use Rattle.poly.specs.Polynomials.{Seq, zeroS, Series, Below, value, Distinct}
+use Rattle.poly.specs.Polynomials.{Seq, zeroS, Series, Below, value}
 use Rattle.poly.proofs.Series.{series}
 use Rattle.poly.proofs.Bounds.{below-same}
 use Rattle.poly.proofs.Evaluation.{value-more}
 use Rattle.poly.proofs.Shift.{shift, shift-value, shift-any}
 use Rattle.poly.proofs.Orders.{Ord}
 use Rattle.poly.proofs.Degrees.{sumBelow, sumBelow-zero, sumBelow-suc}
-use Rattle.poly.proofs.CoprimePowers.{distinct-apart, orders-zero}
+use Rattle.poly.proofs.CoprimePowers.{distinct-apart, orders-zero, Distinct}
 use Rattle.curves.specs.Curves.{Curve, Finite, Under, Lead, Multiplicity, Passing}
 use Rattle.curves.proofs.Leads.{under-mono}
 use Rattle.curves.proofs.MovedCurves.{below-along, along}

@@ -5,15 +5,15 @@ use mathlib.Core.List.{List, []}
 use Prim.Native.Nat.{ℕ, suc, _-_, _*_, _≤_, _<_}
 use lib.ListN.{length, getD}
 use Rattle.field.specs.Field.{Ring, Field, FieldLaws}
-use Rattle.poly.specs.Polynomials.{Seq, zeroS, Series, value, Distinct}
+use Rattle.poly.specs.Polynomials.{Seq, zeroS, Series, value}
 use Rattle.poly.proofs.Series.{series}
-use Rattle.poly.proofs.CoprimePowers.{roots-at-most, polynomials-apart}
+use Rattle.poly.proofs.CoprimePowers.{roots-at-most, polynomials-apart, Distinct}
 use Rattle.curves.specs.Curves.{Curve, Lead, Passing}
 use Rattle.curves.proofs.Heights.{zero-at, height-below}
 use Rattle.curves.proofs.Leads.{lead-nonzero}
-use Rattle.near.specs.Lists.{Task, Numbering, polynomial, Wanted, IsList}
+use Rattle.near.specs.Lists.{Task, polynomial, Wanted, IsList}
 use Rattle.near.specs.Search.{found}
-use Rattle.near.proofs.Messages.{polynomial-same}
+use Rattle.near.proofs.Messages.{polynomial-same, Numbering}
 use Rattle.near.proofs.Lists.{in-at, ascending-once}
 use Rattle.near.proofs.Agreements.{wanted-root}
 use Rattle.near.proofs.search.Found.{found-list}

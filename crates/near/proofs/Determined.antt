@@ -86,7 +86,7 @@ module _ {p : ℕ} {points word : List ℕ} {k m l t : ℕ} {room messages : Lis
               weight = weight-unique (a .smallest) (b .smallest)
 
               room-same : cleared ≡ zeros
-              room-same = untouched-unique workingRoom (a .zeroed .rest) (b .zeroed .rest) (λ q h. a .zeroed .zero q h ∙ sym (b .zeroed .zero q h))
+              room-same = untouched-unique workingRoom (a .zeroed .rest) (b .zeroed .rest) (λ q h. a .zeroed .zeros q h ∙ sym (b .zeroed .zeros q h))
 
               two : Dec (a .smallest .weight < m * t) → (x ≡ y) × (cleared ≡ zeros) × (after ≡ also)
               two (yes h) = let (i, j) = lists-determined places weight (a .lists h) (b .lists (rw weight at h)) in (i, room-same, j)

@@ -15,8 +15,9 @@ use Rattle.field.proofs.SymbolLaws.{symbols-field}
 use Rattle.poly.specs.Limits.{allowanceMost}
 use Rattle.poly.specs.Polynomials.{locator}
 use Rattle.poly.specs.Table.{First, NotListed, BadCount, BadDegree, BadHeights}
-use Rattle.poly.specs.Buffers.{Untouched}
 use Rattle.poly.specs.Limits.{workingRoom}
+use Rattle.poly.specs.Lent.{Untouched}
+use Rattle.poly.specs.Lent.{Zeroed}
 use Rattle.poly.proofs.TableLaws.{first-determined, first-passed, passed-first}
 use Rattle.poly.proofs.Interpolation.{interpolate}
 use Rattle.poly.proofs.Interpolating.{places-distinct}
@@ -40,7 +41,7 @@ use Rattle.rows.proofs.HeldRows.{holds-row}
 use Rattle.rows.proofs.Demands.{demand-3, demand-2}
 use Rattle.rows.proofs.Accepted.{Accepted, start-accepted, accepted-note}
 use Rattle.rows.proofs.Placing.{rows-small}
-use Rattle.near.specs.Job.{taskOf, listTable, Zeroed, refusal, RuleUpdates, Lists, HasListed}
+use Rattle.near.specs.Job.{taskOf, listTable, refusal, RuleUpdates, Lists, HasListed}
 use Rattle.near.specs.Lists.{IsList}
 use Rattle.near.specs.Search.{found}
 use Rattle.near.specs.Work.{curveOf, taskFor, planOf, Laid, Runs, Ran, FoundCurve}
@@ -245,7 +246,7 @@ module _ {p : ℕ} {points word : List ℕ} {k m l t : ℕ} {room cleared messag
 
 -- the bytes were worked in, and then cleared
 zeroed-after : {size : ℕ} {before used cleared : List ℕ} → Untouched size before used → Zeroed size used cleared → Zeroed size before cleared
-zeroed-after u z = record { zero = z .zero; rest = untouched-then u (z .rest) }
+zeroed-after u z = record { zeros = z .zeros; rest = untouched-then u (z .rest) }
 
 -- the three ways in which the job ends
 module _ {p : ℕ} {points word : List ℕ} {k m l t : ℕ} {room messages : List ℕ} where

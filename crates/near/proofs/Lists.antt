@@ -9,9 +9,9 @@ use native.Mathlib.Omega.{arith}
 use native.Mathlib.Decide.{decLt, ℕ-discrete}
 use lib.ListN.{length, getD}
 use Rattle.field.specs.Field.{Field}
-use Rattle.near.specs.Lists.{Task, Numbering, polynomial, In, Before, Ascending, IsList}
+use Rattle.near.specs.Lists.{Task, polynomial, In, Before, Ascending, IsList}
 use Rattle.near.specs.Search.{each}
-use Rattle.near.proofs.Messages.{polynomial-same}
+use Rattle.near.proofs.Messages.{polynomial-same, Numbering}
 
 pub in-each : (p : ℕ) {c : ℕ} (f : ℕ → List (List ℕ)) {x : List ℕ} → c < p → In x (f c) → In x (each p f)
 unfolding each

@@ -7,7 +7,8 @@ use native.Mathlib.Omega.{arith}
 use lib.ListN.{length, getD, List·getD-append, List·getD-eq-default}
 use lib.Seq.{ext-getD, getD-append-add}
 use Rattle.field.specs.Field.{Ring, RingLaws, Field, FieldLaws}
-use Rattle.field.specs.Symbols.{Listed, symbol, symbols}
+use Rattle.field.specs.Symbols.{symbol, symbols}
+use Rattle.field.specs.Operations.{Listed}
 use Rattle.field.proofs.RingLaws.{add-zero, zero-add, one-mul}
 use Rattle.field.proofs.SymbolLaws.{symbol-byte, symbol-injective}
 use Rattle.poly.specs.Polynomials.{Seq, tail, Series, constS, Below, mono}
@@ -15,7 +16,13 @@ use Rattle.poly.proofs.Series.{addS-at}
 use Rattle.poly.proofs.Constants.{constS-zero, constS-suc}
 use Rattle.poly.proofs.Parts.{parts-ext}
 use Rattle.poly.proofs.Monomials.{mono-zero, mono-mul-at, mono-mul-low, mono-mono}
-use Rattle.near.specs.Lists.{Task, Numbering, polynomial, Spelt}
+use Rattle.near.specs.Lists.{Task, polynomial, Spelt}
+
+-- element 0 is zero, and each element of the field is element c for one c below p, and for no other below p
+pub record Numbering (F : Field) (p : ℕ) (element : ℕ → F .ring .Car) : Type 0 where
+  pub null : element 0 ≡ F .ring .𝟘
+  pub all : (e : F .ring .Car) → (c : ℕ) × (c < p) × (element c ≡ e)
+  pub once : (b c : ℕ) → b < p → c < p → element b ≡ element c → b ≡ c
 
 pub spelt-nil : {p : ℕ} → Spelt p 0 []
 spelt-nil = record { long = refl; small = λ i l. absurd (omega arith) }
@@ -31,7 +38,7 @@ spelt-cons {p} {k} {c} {x} l s = record { long = ap suc (s .long); small = small
 pub symbols-numbered : {p : ℕ} → Listed p → Numbering (symbols p) p (symbol p)
 symbols-numbered {p} h =
     record {
-      zero = refl;
+      null = refl;
       all = λ e. (e .byte, rw (sym (e .own)) (mod-lt (e .byte) (omega arith)), symbol-byte p e);
       once = λ b c. symbol-injective p;
     }
@@ -45,7 +52,7 @@ module _ {F : Field} (task : Task F) (num : Numbering F (task .p) (task .element
       (λ i l. num .once (getD x i 0) (getD y i 0) (sx .small i (omega arith)) (sy .small i (omega arith)) (ap (λ (g : Seq (F .ring)). g i) e))
 
   pub spell : (k : ℕ) (g : Seq (F .ring)) → Below (F .ring) k g → (x : List ℕ) × Spelt (task .p) k x × (polynomial task x ≡ g)
-  spell zero g h = ([], spelt-nil, fun-ext (λ i. num .zero ∙ sym (h i (omega arith))))
+  spell zero g h = ([], spelt-nil, fun-ext (λ i. num .null ∙ sym (h i (omega arith))))
   spell (suc k) g h =
       let a = num .all (g 0) in
       let b = spell k (tail (F .ring) g) (λ i l. h (suc i) (omega arith)) in
@@ -56,7 +63,7 @@ module _ {F : Field} (task : Task F) (num : Numbering F (task .p) (task .element
       at c x e f (suc i) = ap (λ (g : Seq (F .ring)). g i) f
 
   pub polynomial-beyond : (x : List ℕ) (i : ℕ) → length x ≤ i → polynomial task x i ≡ F .ring .𝟘
-  polynomial-beyond x i l = ap (task .element) (List·getD-eq-default x 0 l) ∙ num .zero
+  polynomial-beyond x i l = ap (task .element) (List·getD-eq-default x 0 l) ∙ num .null
 
 module _ {F : Field} (Φ : FieldLaws F) (task : Task F) (num : Numbering F (task .p) (task .element)) where
   abbrev R : Ring
@@ -92,4 +99,4 @@ module _ {F : Field} (Φ : FieldLaws F) (task : Task F) (num : Numbering F (task
     where
       one : (i : ℕ) → polynomial task (c ∷ []) i ≡ constS R (task .element c) i
       one zero = sym (constS-zero R (task .element c))
-      one (suc i) = num .zero ∙ sym (constS-suc R (task .element c) i)
+      one (suc i) = num .null ∙ sym (constS-suc R (task .element c) i)

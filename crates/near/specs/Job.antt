@@ -2,7 +2,6 @@
 --   taskOf p points word k t   what is asked of the list, over the symbols of p
 --   listTable          refusals 1 to 9
 --   flat list          the messages one after the other
---   Zeroed size xs ys  ys is xs with its first `size` bytes zero
 --   refusal number     what a refusal hands back: its number and zeros
 --   RuleUpdates        how many updates the rule makes from the starting rows to the end
 --   Lists              what an answered list hands back and leaves in the message room: exactly the messages wanted
@@ -17,7 +16,7 @@ use Rattle.field.specs.Symbols.{symbol, symbols, symbolsOf}
 use Rattle.poly.specs.Polynomials.{Seq, locator, Through}
 use Rattle.poly.specs.Limits.{workingRoom}
 use Rattle.poly.specs.Table.{Refusal, First, TooShort}
-use Rattle.poly.specs.Buffers.{Untouched}
+use Rattle.poly.specs.Lent.{Untouched, Zeroed}
 use Rattle.curves.specs.Curves.{Curve}
 use Rattle.curves.specs.Start.{startRow}
 use Rattle.curves.specs.Turns.{Outcome, Turn}
@@ -39,10 +38,6 @@ listTable p points word k m l t room messages =
 abbrev pub flat : List (List ℕ) → List ℕ
 flat [] = []
 flat (x ∷ list) = x ++ flat list
-
-pub record Zeroed (size : ℕ) (before after : List ℕ) : Type 0 where
-  pub zero : (q : ℕ) → q < size → getD after q 0 ≡ 0
-  pub rest : Untouched size before after
 
 abbrev pub refusal : ℕ → Near
 refusal number = record { number = number; count = 0; updates = 0; weight = 0 }

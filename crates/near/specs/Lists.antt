@@ -1,7 +1,6 @@
 -- The messages near a received word. A message is k symbols, constant first, that is, a polynomial of degree below k. All is said over
 -- any field whose elements are numbered: in the field of the numbers modulo p the elements are symbol p 0, .., symbol p (p-1). Rules: section 12.
 --   Task F                  what is asked: the word received at n points, messages of k symbols, t agreements; and the numbers of symbols
---   Numbering F p element   element 0 is zero, and each element of the field is element c for one c below p, and for no other below p
 --   polynomial task x       the polynomial whose coefficients have the numbers x, constant first
 --   Spelt p k x             x is k numbers below p
 --   one test                1 where the test holds, else 0
@@ -27,11 +26,6 @@ pub record Task (F : Field) : Type 0 where
   pub received : ℕ → F .ring .Car
   pub k : ℕ
   pub t : ℕ
-
-pub record Numbering (F : Field) (p : ℕ) (element : ℕ → F .ring .Car) : Type 0 where
-  pub zero : element 0 ≡ F .ring .𝟘
-  pub all : (e : F .ring .Car) → (c : ℕ) × (c < p) × (element c ≡ e)
-  pub once : (b c : ℕ) → b < p → c < p → element b ≡ element c → b ≡ c
 
 pub record Spelt (p k : ℕ) (x : List ℕ) : Type 0 where
   pub long : length x ≡ k

@@ -28,11 +28,13 @@ use Prim.Native.Nat.{ℕ, suc, _+_, _-_, _*_, _≤_, _<_}
 use native.Mathlib.Decide.{decLe}
 use lib.ListN.{length, getD, take}
 use lib.Seq.{sets}
-use Rattle.field.specs.Symbols.{Listed, symbol, symbols, sumOf, productOf}
+use Rattle.field.specs.Symbols.{symbol, symbols, sumOf, productOf}
 use Rattle.field.specs.Choices.{choose}
+use Rattle.field.specs.Operations.{Listed}
 use Rattle.poly.specs.Polynomials.{Seq, value}
-use Rattle.poly.specs.Buffers.{AllBelow, Untouched}
+use Rattle.poly.specs.Buffers.{AllBelow}
 use Rattle.poly.specs.Limits.{workingRoom}
+use Rattle.poly.specs.Lent.{Untouched}
 use Rattle.curves.specs.Curves.{Curve, Under}
 use Rattle.rows.specs.Bytes.{width, shape, curveBytes, rowsOf, HoldsCurve}
 use Rattle.rows.specs.Work.{Fine}

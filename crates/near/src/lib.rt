@@ -2,9 +2,10 @@
 ghost use Prim.Native.Nat.{_+_, _-_, _*_, _<_, _≤_};
 ghost use lib.ListN.{length};
 ghost use Rattle.poly.specs.Table.{First};
+ghost use Rattle.poly.specs.Lent.{Zeroed};
 ghost use Rattle.rows.specs.Bytes.{shape, curveBytes};
 ghost use Rattle.rows.specs.Jobs.{startTable};
-ghost use Rattle.near.specs.Job.{Zeroed, HasListed};
+ghost use Rattle.near.specs.Job.{HasListed};
 ghost use Rattle.near.specs.Work.{FoundCurve};
 use poly::limits::ALLOWANCE_MOST;
 use poly::limits::CURVE_MOST;

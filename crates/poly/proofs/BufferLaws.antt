@@ -8,13 +8,14 @@ use native.Mathlib.Decide.{decLt}
 use native.Mathlib.Omega.{arith}
 use lib.ListN.{length, getD, take, drop, length-take, length-drop, List·getD-eq-default}
 use lib.Seq.{take-all, getD-take, getD-drop, ext-getD}
-use Rattle.field.specs.Symbols.{Element, symbol, symbols, Listed, symbolsOf}
+use Rattle.field.specs.Symbols.{Element, symbol, symbols, symbolsOf}
 use Rattle.field.specs.Kernels.{Region}
-use Rattle.field.specs.Operations.{plusBytes, timesBytes}
+use Rattle.field.specs.Operations.{plusBytes, timesBytes, Listed}
 use Rattle.field.proofs.SymbolLaws.{symbol-byte, zero-byte, byte-below}
 use Rattle.field.proofs.OperationLaws.{symbol-timesBytes}
 use Rattle.poly.specs.Polynomials.{Seq, tail, Below, value}
-use Rattle.poly.specs.Buffers.{AllBelow, Factors, Kept, Untouched}
+use Rattle.poly.specs.Buffers.{AllBelow, Factors, Kept}
+use Rattle.poly.specs.Lent.{Untouched}
 
 module _ (p : ℕ) (xs : List ℕ) where
   -- the bytes of xs are the coefficients of f

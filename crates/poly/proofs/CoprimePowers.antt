@@ -12,7 +12,7 @@ use Rattle.field.proofs.RingLaws.{mul-zero, one-mul, mul-assoc, add-neg, differ
 use Rattle.field.proofs.RingTactic.{ring}
 use Rattle.field.proofs.Sums.{pow-zero, pow-suc, prod-zero, prod-suc}
 use Rattle.field.proofs.FieldLaws.{no-zero-divisor}
-use Rattle.poly.specs.Polynomials.{Seq, zeroS, oneS, addS, negS, mulS, Series, consS, lin, Below, value, Distinct}
+use Rattle.poly.specs.Polynomials.{Seq, zeroS, oneS, addS, negS, mulS, Series, consS, lin, Below, value}
 use Rattle.poly.proofs.Series.{series, readings, zeroS-at}
 use Rattle.poly.proofs.Constants.{xPlus, xPlus-zero}
 use Rattle.poly.proofs.Bounds.{below-zero, below-null, below-same, below-lin, below-add, below-neg, below-mul, below-mul-tight}
@@ -34,6 +34,10 @@ module _ (R : Ring) where
   -- the product of (x - a_s)^(m_s) over s < n
   abbrev pub factorsAt : ℕ → (ℕ → Car) → (ℕ → ℕ) → Seq R
   factorsAt n a m = prod (Series R) n (λ s. factorAt (a s) (m s))
+
+  -- a 0, .., a (n-1) are all different
+  abbrev pub Distinct : ℕ → (ℕ → Car) → Type 0
+  Distinct n a = (i j : ℕ) → i < n → j < n → a i ≡ a j → i ≡ j
 
   -- the differences of the first n places cancel
   abbrev pub Apart : ℕ → (ℕ → Car) → Type 0

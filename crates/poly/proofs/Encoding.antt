@@ -8,7 +8,7 @@ use lib.ListN.{length, getD, set, length-set}
 use lib.Seq.{getD-set-same, getD-set-other}
 use borrow.Author.Count.{below-more}
 use borrow.Author.Needs.{needs}
-use Rattle.field.specs.Symbols.{Listed}
+use Rattle.field.specs.Operations.{Listed}
 use Rattle.poly.specs.Table.{First}
 use Rattle.poly.specs.Encode.{valueAt, encodeTable}
 use Rattle.poly.specs.Buffers.{AllBelow}

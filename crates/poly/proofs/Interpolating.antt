@@ -10,8 +10,8 @@ use native.Mathlib.Omega.{arith}
 use lib.ListN.{length, getD, take, drop, set, replicate, length-take, length-drop, getD-replicate}
 use lib.Seq.{getD-take, getD-drop, getD-set-other}
 use Rattle.field.specs.Field.{Ring, FieldLaws}
-use Rattle.field.specs.Symbols.{Listed, Element, symbol, sumOf, productOf, negativeOf, inverseOf, symbols, symbolsOf}
-use Rattle.field.specs.Operations.{negByte}
+use Rattle.field.specs.Symbols.{Element, symbol, sumOf, productOf, negativeOf, inverseOf, symbols, symbolsOf}
+use Rattle.field.specs.Operations.{negByte, Listed}
 use Rattle.field.specs.Kernels.{Subtracts, subtracted}
 use Rattle.field.proofs.RingLaws.{mul-comm}
 use Rattle.field.proofs.Sums.{prod-zero, prod-suc}
@@ -19,13 +19,13 @@ use Rattle.field.proofs.SymbolLaws.{symbol-byte, symbol-own, symbol-injective, 
 use Rattle.field.proofs.FieldLaws.{divided}
 use Rattle.field.proofs.OperationLaws.{symbol-minusBytes, symbol-timesBytes, symbol-invByte, symbol-negByte, timesBytes-below, negByte-below}
 use Rattle.field.proofs.KernelLaws.{length-subtracted, subtracted-outside, subtracted-below, subtracted-symbol}
-use Rattle.poly.specs.Polynomials.{Seq, Series, zeroS, oneS, consS, negS, scaleS, value, lin, Distinct, locator, Through}
+use Rattle.poly.specs.Polynomials.{Seq, Series, zeroS, oneS, consS, negS, scaleS, value, lin, locator, Through}
 use Rattle.poly.specs.Encode.{valueAt}
 use Rattle.poly.specs.Buffers.{AllBelow, from, Factors, productFrom, Product, Halves, correctionOf, Places, Interpolated}
 use Rattle.poly.proofs.Series.{zeroS-at, addS-at, negS-at, scaleS-at, series}
 use Rattle.poly.proofs.Evaluation.{value-more}
 use Rattle.poly.proofs.Degrees.{monic-locator}
-use Rattle.poly.proofs.CoprimePowers.{distinct-apart}
+use Rattle.poly.proofs.CoprimePowers.{distinct-apart, Distinct}
 use Rattle.poly.proofs.Interpolation.{interpolant-unique, locator-nonzero, next, through-next}
 use Rattle.poly.proofs.BufferLaws.{symbols-are}
 use Rattle.poly.proofs.Products.{product-low}

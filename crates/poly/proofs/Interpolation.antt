@@ -10,13 +10,13 @@ use Rattle.field.proofs.RingLaws.{add-neg, mul-zero, zero-mul, difference-zero}
 use Rattle.field.proofs.RingTactic.{ring, reading}
 use Rattle.field.proofs.Sums.{prod-zero, prod-suc}
 use Rattle.field.proofs.FieldLaws.{divided}
-use Rattle.poly.specs.Polynomials.{Seq, zeroS, addS, negS, scaleS, Series, lin, value, Distinct, locator, Through}
+use Rattle.poly.specs.Polynomials.{Seq, zeroS, addS, negS, scaleS, Series, lin, value, locator, Through}
 use Rattle.poly.proofs.Series.{series, zeroS-at}
 use Rattle.poly.proofs.Constants.{xPlus-neg}
 use Rattle.poly.proofs.Bounds.{below-null, below-add, below-neg, below-scale, below-lin}
 use Rattle.poly.proofs.Evaluation.{value-add, value-neg, value-scale, value-more, value-mul, value-one, value-xPlus}
 use Rattle.poly.proofs.Degrees.{monic-locator}
-use Rattle.poly.proofs.CoprimePowers.{Apart, distinct-apart, roots-zero}
+use Rattle.poly.proofs.CoprimePowers.{Apart, distinct-apart, roots-zero, Distinct}
 
 module _ {R : Ring} (L : RingLaws R) where
   open Ring R using (Car, 𝟘, 𝟙, plus as _⊕_, times as _⊗_, neg as ⊖_)

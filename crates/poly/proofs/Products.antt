@@ -9,7 +9,8 @@ use lib.ListN.{length, getD, set, length-set, List·getD-eq-default}
 use lib.Seq.{getD-set-same, getD-set-other}
 use Rattle.field.specs.Field.{Ring, RingLaws, sum}
 use Rattle.field.specs.Kernels.{convolution}
-use Rattle.field.specs.Symbols.{Listed, Element, symbol, symbols, productOf, symbolsOf}
+use Rattle.field.specs.Symbols.{Element, symbol, symbols, productOf, symbolsOf}
+use Rattle.field.specs.Operations.{Listed}
 use Rattle.field.proofs.RingLaws.{add-zero, zero-mul}
 use Rattle.field.proofs.Sums.{sum-cong, sum-split, sum-null}
 use Rattle.field.proofs.SymbolLaws.{symbols-field}

@@ -8,7 +8,8 @@ use native.Mathlib.Decide.{decLt}
 use native.Mathlib.Omega.{arith}
 use lib.Dec.{T}
 use lib.ListN.{getD, take, drop}
-use Rattle.field.specs.Symbols.{listed, Listed}
+use Rattle.field.specs.Symbols.{listed}
+use Rattle.field.specs.Operations.{Listed}
 use Rattle.field.proofs.SymbolLaws.{is-listed}
 use Rattle.poly.specs.Table.{Refusal, First, NotListed, TooLarge, BadCount, BadDegree}
 use Rattle.poly.specs.Buffers.{Decided, AllBelow}
@@ -59,15 +60,12 @@ decided-true holds = record { holds = λ e. holds; fails = λ e. absurd (true≢
 pub decided-false : {P : Type 0} → (P → ⊥) → Decided false P
 decided-false fails = record { holds = λ e. absurd (true≢false (sym e)); fails = λ e. fails }
 
-pub not-listed : {p : ℕ} → listed p ≡ false → NotListed p
-not-listed e l = subst T e (l .listed)
-
 pub listed-passed : {p : ℕ} → (NotListed p → ⊥) → Listed p
 listed-passed {p} n = go (listed p) refl
   where
     go : (b : Bool) → listed p ≡ b → Listed p
     go true e = is-listed e
-    go false e = absurd (n (not-listed e))
+    go false e = absurd (n e)
 
 pub below-passed : {p : ℕ} {xs : List ℕ} → (TooLarge p xs → ⊥) → AllBelow p xs
 below-passed {p} {xs} n i h = go (decLt (getD xs i 0) p)
@@ -77,6 +75,9 @@ below-passed {p} {xs} n i h = go (decLt (getD xs i 0) p)
     go (no g) = absurd (n (record { place = i; inside = h; large = omega arith }))
 
 -- refusals that do not apply
+pub not-unlisted : {p : ℕ} → Listed p → NotListed p → ⊥
+not-unlisted l e = subst T e (l .is)
+
 pub none-large : {p : ℕ} {xs : List ℕ} → AllBelow p xs → TooLarge p xs → ⊥
 none-large below t = let l = t .large in let b = below (t .place) (t .inside) in omega arith
 

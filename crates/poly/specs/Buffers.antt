@@ -8,7 +8,6 @@
 --                           can hold
 --   productFrom p f xs at   f times that x-polynomial
 --   Kept at len xs ys       only the len bytes from `at` on may differ
---   Untouched size xs ys    from the byte `size` on ys is as xs, and as long
 --   Product                 those bytes become the coefficients of the product, as far as they go
 --   Halves p a b work       p is listed, and a, b and all 64 bytes are below p
 --   correctionOf p a b work (h (a) - b) / e (a), with h in the first 32 bytes and e in the next 32, as a byte
@@ -20,8 +19,8 @@ use mathlib.Core.Logic.{_⊎_}
 use mathlib.Core.List.{List}
 use Prim.Native.Nat.{ℕ, _+_, _≤_, _<_}
 use lib.ListN.{length, getD, take, drop}
-use Rattle.field.specs.Symbols.{Listed, symbol, symbols, symbolsOf}
-use Rattle.field.specs.Operations.{minusBytes, timesBytes, invByte}
+use Rattle.field.specs.Symbols.{symbol, symbols, symbolsOf}
+use Rattle.field.specs.Operations.{minusBytes, timesBytes, invByte, Listed}
 use Rattle.field.specs.Kernels.{Region}
 use Rattle.poly.specs.Polynomials.{Seq, mulS, locator, Through}
 use Rattle.poly.specs.Table.{Repeated}
@@ -59,10 +58,6 @@ productFrom p f xs at = mulS (symbols p .ring) (symbolsOf p f) (from p xs at)
 pub record Kept (at len : ℕ) (before after : List ℕ) : Type 0 where
   pub long : length after ≡ length before
   pub same : (q : ℕ) → (q < at) ⊎ (at + len ≤ q) → getD after q 0 ≡ getD before q 0
-
-pub record Untouched (size : ℕ) (before after : List ℕ) : Type 0 where
-  pub long : length after ≡ length before
-  pub same : (q : ℕ) → size ≤ q → getD after q 0 ≡ getD before q 0
 
 pub record Product (p : ℕ) (f : List ℕ) (at len : ℕ) (before after : List ℕ) : Type 0 where
   pub kept : Kept at len before after

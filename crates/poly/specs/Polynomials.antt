@@ -12,7 +12,6 @@
 --   lin R a            x - a
 --   Below R N f        every coefficient from x^N on is zero: f is a polynomial of degree below N
 --   value R a N f      f (a), for a polynomial f of degree below N, by Horner's rule
---   Distinct R n a     a 0, .., a (n-1) are all different
 --   locator R n a      (x - a 0) .. (x - a (n-1))
 --   Through R n a v h  h is a polynomial of degree below n, and h (a s) = v s for every s < n
 --   binomial n i       the coefficient of x^i in (1 + x)^n
@@ -78,9 +77,6 @@ module _ (R : Ring) where
   unfoldable pub value : Car → ℕ → Seq → Car
   value a zero f = 𝟘
   value a (suc N) f = f zero ⊕ a ⊗ value a N (tail f)
-
-  abbrev pub Distinct : ℕ → (ℕ → Car) → Type 0
-  Distinct n a = (i j : ℕ) → i < n → j < n → a i ≡ a j → i ≡ j
 
   abbrev pub locator : ℕ → (ℕ → Car) → Seq
   locator n a = prod Series n (λ s. lin (a s))

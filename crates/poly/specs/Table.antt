@@ -10,11 +10,12 @@
 --   Repeated xs            7: two points are equal
 --   TooShort size room     9: a lent buffer is too short
 use mathlib.Core.Path.{_≡_}
+use mathlib.Core.Bool.{false}
 use mathlib.Core.Logic.{_⊎_}
 use mathlib.Core.List.{List, [], _∷_}
 use Prim.Native.Nat.{ℕ, _≤_, _<_}
 use lib.ListN.{length, getD}
-use Rattle.field.specs.Symbols.{Listed}
+use Rattle.field.specs.Symbols.{listed}
 use Rattle.poly.specs.Limits.{multiplicityMost, heightMost}
 
 pub record Refusal : Type 1 where
@@ -26,7 +27,7 @@ First [] number = number ≡ 0
 First (x ∷ rest) number = (x .applies × (number ≡ x .number)) ⊎ ((x .applies → ⊥) × First rest number)
 
 abbrev pub NotListed : ℕ → Type 0
-NotListed p = Listed p → ⊥
+NotListed p = listed p ≡ false
 
 abbrev pub BadCount : ℕ → ℕ → Type 0
 BadCount p n = (n < 3) ⊎ (p < n)

@@ -11,7 +11,7 @@ use Rattle.field.specs.Field.{Ring, Field, FieldLaws}
 use Rattle.field.specs.Symbols.{symbols}
 use Rattle.field.proofs.SymbolLaws.{symbols-field}
 use Rattle.poly.specs.Table.{First}
-use Rattle.poly.specs.Buffers.{Untouched}
+use Rattle.poly.specs.Lent.{Untouched}
 use Rattle.poly.proofs.TableLaws.{first-passed}
 use Rattle.poly.proofs.BufferLaws.{untouched-then}
 use Rattle.curves.specs.Curves.{Curve, Zero, Lead}

@@ -4,10 +4,10 @@ use mathlib.Core.Logic.{inl, inr}
 use Prim.Native.Nat.{ℕ, zero, suc, _+_, _-_, _*_, _≤_, _<_}
 use native.Mathlib.Nat.{mul-le-mul, mul-le-mul-right, mul-comm, add-mul}
 use native.Mathlib.Omega.{arith}
-use Rattle.field.specs.Symbols.{Listed}
+use Rattle.field.specs.Operations.{Listed}
 use Rattle.poly.specs.Limits.{fieldMost, multiplicityMost, heightMost, updatesMost}
 use Rattle.poly.specs.Table.{BadHeights}
-use Rattle.poly.proofs.TableLaws.{listed-passed}
+use Rattle.poly.proofs.TableLaws.{not-unlisted, listed-passed}
 use Rattle.curves.specs.Start.{total, formula}
 use Rattle.curves.proofs.Formula.{total-le}
 use Rattle.rows.specs.Bytes.{shape}
@@ -75,7 +75,7 @@ good-note {note} n =
     }
 
 pub not-bad : {note : Note} → GoodNote note → BadNote note → ⊥
-not-bad g (size n) = n (g .size)
+not-bad g (size n) = not-unlisted (g .size) n
 not-bad g (count (inl h)) = omega (arith, g .some)
 not-bad g (count (inr h)) = omega (arith, g .most)
 not-bad g (degree (inl h)) = omega (arith, g .low)

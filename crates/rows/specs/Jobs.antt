@@ -19,7 +19,7 @@ use lib.ListN.{length, take}
 use Rattle.field.specs.Symbols.{symbols, symbolsOf}
 use Rattle.poly.specs.Polynomials.{Seq, locator, Through}
 use Rattle.poly.specs.Table.{Refusal, First, NotListed, BadCount, BadDegree, BadHeights, TooLarge, Repeated, TooShort}
-use Rattle.poly.specs.Buffers.{Untouched}
+use Rattle.poly.specs.Lent.{Untouched}
 use Rattle.curves.specs.Curves.{Curve, HasHeight, Smallest, Passing}
 use Rattle.curves.specs.Start.{startRow}
 use Rattle.curves.specs.Turns.{Outcome, Turn}

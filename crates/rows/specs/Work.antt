@@ -24,11 +24,11 @@ use lib.ListN.{length, getD}
 use lib.Seq.{sets}
 use Rattle.field.specs.Field.{Ring}
 use Rattle.field.specs.Lists.{tabulate}
-use Rattle.field.specs.Symbols.{Listed, symbols}
-use Rattle.field.specs.Operations.{minusBytes, timesBytes}
+use Rattle.field.specs.Symbols.{symbols}
+use Rattle.field.specs.Operations.{minusBytes, timesBytes, Listed}
 use Rattle.field.specs.Kernels.{Region}
 use Rattle.poly.specs.Limits.{fieldMost, widthMost, heightMost}
-use Rattle.poly.specs.Buffers.{Untouched}
+use Rattle.poly.specs.Lent.{Untouched}
 use Rattle.curves.specs.Curves.{Curve, Height, Zero, Under, Lead, LeadsAt}
 use Rattle.curves.specs.Entry.{Sound}
 use Rattle.rows.specs.Bytes.{slot, rowsBytes, curveBytes, within, rowsOf, place}

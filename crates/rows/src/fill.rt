@@ -2,7 +2,8 @@
 ghost use mathlib.Core.Path.{_≡_};
 ghost use Prim.Native.Nat.{suc, _+_, _-_, _*_, _<_, _≤_};
 ghost use lib.ListN.{length};
-ghost use Rattle.poly.specs.Buffers.{Factors, Untouched};
+ghost use Rattle.poly.specs.Buffers.{Factors};
+ghost use Rattle.poly.specs.Lent.{Untouched};
 ghost use Rattle.rows.specs.Bytes.{rowsBytes};
 ghost use Rattle.rows.specs.Filling.{cleared, copied, Copies, Power, RaisedSlot, Raised, FillsLow, FilledLow, RaisesRow, raisedRow, Fills};
 ghost use Rattle.rows.specs.Filling.{Filled};

@@ -3,7 +3,7 @@ ghost use mathlib.Core.Path.{_≡_};
 ghost use Prim.Native.Nat.{_+_, _-_, _*_, _<_, _≤_};
 ghost use lib.ListN.{length};
 ghost use Rattle.field.specs.Symbols.{symbols};
-ghost use Rattle.poly.specs.Buffers.{Untouched};
+ghost use Rattle.poly.specs.Lent.{Untouched};
 ghost use Rattle.curves.specs.Finish.{Lightest, monic};
 ghost use Rattle.curves.specs.Curves.{HasHeight};
 ghost use Rattle.rows.specs.Bytes.{rowsOf, curveBytes, HoldsCurve};

@@ -7,7 +7,7 @@ use native.Mathlib.Omega.{arith}
 use lib.ListN.{length, getD, set, length-set}
 use lib.Seq.{getD-set-same, getD-set-other}
 use borrow.Author.Needs.{needs}
-use Rattle.near.specs.Job.{Zeroed}
+use Rattle.poly.specs.Lent.{Zeroed}
 use Rattle.near.proofs.clear.Statement.{statement}
 use Rattle.near.proofs.clear.Tie as tie
 
@@ -21,7 +21,7 @@ abbrev μ-loop : tie.MeasureT-loop
 zeroed-more : {i : ℕ} {before after : List ℕ} → Zeroed i before after → i < length after → Zeroed (i + 1) before (set after i 0)
 zeroed-more {i} {before} {after} z inside =
     record {
-      zero = λ q h. zero q h (ℕ-discrete q i);
+      zeros = λ q h. zero q h (ℕ-discrete q i);
       rest =
           record {
             long = length-set after i 0 ∙ z .rest .long;
@@ -31,10 +31,10 @@ zeroed-more {i} {before} {after} z inside =
   where
     zero : (q : ℕ) → q < i + 1 → Dec (q ≡ i) → getD (set after i 0) q 0 ≡ 0
     zero q h (yes e) = rw e (getD-set-same after i 0 0 inside)
-    zero q h (no n) = getD-set-other after i q 0 0 n ∙ z .zero q (omega arith)
+    zero q h (no n) = getD-set-other after i q 0 0 n ∙ z .zeros q (omega arith)
 
 loop-holds : tie.Need-loop-holds Inv-loop μ-loop
-loop-holds c = (omega arith, record { zero = λ q h. absurd (omega arith); rest = record { long = refl; same = λ q h. refl } })
+loop-holds c = (omega arith, record { zeros = λ q h. absurd (omega arith); rest = record { long = refl; same = λ q h. refl } })
 
 slice-write-room : tie.Need-slice-write-room Inv-loop μ-loop
 slice-write-room c = let s = c .before .loop .inv .1 .rest .long in omega (arith, c .before .before .pre)

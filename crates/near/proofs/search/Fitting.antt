@@ -20,9 +20,9 @@ use Rattle.curves.specs.Curves.{Curve, Height, Zero, Under, Lead}
 use Rattle.curves.proofs.Heights.{zero-at, height-below, below-height}
 use Rattle.curves.proofs.Leads.{under-mono, lead-nonzero}
 use Rattle.curves.proofs.Weights.{under-shift}
-use Rattle.near.specs.Lists.{Task, Numbering, polynomial}
+use Rattle.near.specs.Lists.{Task, polynomial}
 use Rattle.near.specs.Search.{Fits, chosen, slice, least, some?, lowest, curveLeft, level, opened}
-use Rattle.near.proofs.Messages.{polynomial-beyond, polynomial-snoc}
+use Rattle.near.proofs.Messages.{polynomial-beyond, polynomial-snoc, Numbering}
 use Rattle.near.proofs.search.Steps.{slice-at, slice-beyond, prefixed-slice, root-symbol}
 use Rattle.near.proofs.search.LowestPower.{some-none, some-one}
 use Rattle.near.proofs.search.Passes.{chosen-shift}
@@ -187,7 +187,7 @@ module _ {F : Field} (Φ : FieldLaws F) (task : Task F) (num : Numbering F (task
   left-shift tall x = ap (curveLeft task N [] x) (sym none) ∙ shift-left [] x
     where
       zeros : polynomial task [] ≡ zeroS (F .ring)
-      zeros = fun-ext (λ i. num .zero ∙ sym (zeroS-at (F .ring) i))
+      zeros = fun-ext (λ i. num .null ∙ sym (zeroS-at (F .ring) i))
 
       none : shift (Series (F .ring)) (polynomial task []) N Q ≡ Q
       none = rw zeros (shift-none (series (Φ .ring)) N Q (height-below (F .ring) tall))

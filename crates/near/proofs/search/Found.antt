@@ -11,9 +11,9 @@ use Rattle.field.specs.Field.{Ring, Field, FieldLaws}
 use Rattle.field.specs.Choices.{choose}
 use Rattle.poly.specs.Polynomials.{Seq, zeroS, Series, value}
 use Rattle.curves.specs.Curves.{Curve, Height}
-use Rattle.near.specs.Lists.{Task, Numbering, polynomial, agreements, Spelt, In, Before, Ascending, Wanted, IsList}
+use Rattle.near.specs.Lists.{Task, polynomial, agreements, Spelt, In, Before, Ascending, Wanted, IsList}
 use Rattle.near.specs.Search.{chosen, fits?, each, curveLeft, level, opened, found}
-use Rattle.near.proofs.Messages.{spelt-nil, spelt-cons, spell, polynomial-beyond, polynomial-append}
+use Rattle.near.proofs.Messages.{spelt-nil, spelt-cons, spell, polynomial-beyond, polynomial-append, Numbering}
 use Rattle.near.proofs.Lists.{in-each, each-in, ascending-each, before-append}
 use Rattle.near.proofs.search.Fitting.{root-fits, level-next, left-shift}
 

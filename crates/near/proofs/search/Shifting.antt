@@ -16,7 +16,7 @@ use Rattle.field.proofs.OperationLaws.{symbol-negByte, negByte-below}
 use Rattle.field.proofs.KernelLaws.{length-subtracted, subtracted-outside, subtracted-below, subtracted-symbol}
 use Rattle.poly.specs.Limits.{curveMost}
 use Rattle.poly.specs.Polynomials.{Seq, Series, mono}
-use Rattle.poly.specs.Buffers.{Untouched}
+use Rattle.poly.specs.Lent.{Untouched}
 use Rattle.poly.proofs.Series.{series}
 use Rattle.poly.proofs.BufferLaws.{untouched-none, untouched-then, untouched-unique}
 use Rattle.curves.specs.Curves.{Curve, Height, Under}

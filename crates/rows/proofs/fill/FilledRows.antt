@@ -8,10 +8,12 @@ use native.Mathlib.Numerals.{add-one}
 use native.Mathlib.Decide.{ℕ-discrete}
 use native.Mathlib.Omega.{arith}
 use lib.ListN.{length, getD, take, drop}
-use Rattle.field.specs.Symbols.{Listed, symbols, symbolsOf}
+use Rattle.field.specs.Symbols.{symbols, symbolsOf}
+use Rattle.field.specs.Operations.{Listed}
 use Rattle.field.proofs.SymbolLaws.{symbols-field, zero-byte}
 use Rattle.poly.specs.Polynomials.{Series, zeroS, consS}
-use Rattle.poly.specs.Buffers.{AllBelow, Kept, Untouched}
+use Rattle.poly.specs.Buffers.{AllBelow, Kept}
+use Rattle.poly.specs.Lent.{Untouched}
 use Rattle.poly.proofs.BufferLaws.{below-take, below-drop}
 use Rattle.curves.specs.Curves.{Curve}
 use Rattle.curves.specs.Start.{startRow}

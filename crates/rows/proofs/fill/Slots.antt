@@ -9,8 +9,8 @@ use native.Mathlib.Decide.{ℕ-discrete}
 use native.Mathlib.Omega.{arith}
 use lib.ListN.{length, getD}
 use Rattle.field.specs.Field.{Ring, RingLaws, pow}
-use Rattle.field.specs.Symbols.{Listed, Element, symbol, symbols, sumOf, productOf, negativeOf, symbolsOf}
-use Rattle.field.specs.Operations.{negByte}
+use Rattle.field.specs.Symbols.{Element, symbol, symbols, sumOf, productOf, negativeOf, symbolsOf}
+use Rattle.field.specs.Operations.{negByte, Listed}
 use Rattle.field.specs.Kernels.{Region, Subtracts, Scales, subtracted, scaled}
 use Rattle.field.proofs.RingLaws.{mul-assoc, one-mul, neg-mul, neg-neg}
 use Rattle.field.proofs.Sums.{pow-zero, pow-suc}

@@ -4,7 +4,7 @@ use Prim.Native.Nat.{_≤_}
 use native.Mathlib.Omega.{arith}
 use lib.ListN.{length}
 use borrow.Author.Needs.{needs}
-use Rattle.poly.specs.Buffers.{Untouched}
+use Rattle.poly.specs.Lent.{Untouched}
 use Rattle.curves.proofs.Leads.{lead-light}
 use Rattle.rows.specs.Bytes.{curveBytes, rowsOf}
 use Rattle.rows.specs.Jobs.{Hands}

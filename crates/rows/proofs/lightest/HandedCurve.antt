@@ -16,7 +16,7 @@ use Rattle.field.proofs.SymbolLaws.{symbols-field}
 use Rattle.field.proofs.OperationLaws.{symbol-invByte}
 use Rattle.field.proofs.KernelLaws.{length-scaled, scaled-inside, scaled-outside}
 use Rattle.poly.specs.Limits.{rowsMost}
-use Rattle.poly.specs.Buffers.{Untouched}
+use Rattle.poly.specs.Lent.{Untouched}
 use Rattle.curves.specs.Finish.{monic}
 use Rattle.curves.specs.Curves.{HasHeight}
 use Rattle.curves.proofs.Least.{monic-at}

@@ -9,8 +9,9 @@ use native.Mathlib.Decide.{decLe}
 use native.Mathlib.Omega.{arith}
 use lib.ListN.{length, getD}
 use Rattle.field.specs.Field.{RingLaws}
-use Rattle.field.specs.Symbols.{Listed, symbol, symbols, sumOf, productOf, negativeOf}
+use Rattle.field.specs.Symbols.{symbol, symbols, sumOf, productOf, negativeOf}
 use Rattle.field.specs.Kernels.{subtracted}
+use Rattle.field.specs.Operations.{Listed}
 use Rattle.field.proofs.RingLaws.{add-zero, mul-zero, neg-zero}
 use Rattle.field.proofs.SymbolLaws.{symbols-field}
 use Rattle.field.proofs.KernelLaws.{subtracted-outside, subtracted-symbol}

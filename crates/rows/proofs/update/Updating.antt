@@ -14,7 +14,7 @@ use Rattle.field.proofs.RingTactic.{ring}
 use Rattle.field.proofs.OperationLaws.{symbol-negByte}
 use Rattle.field.proofs.SymbolLaws.{symbols-field, symbol-byte, byte-is}
 use Rattle.field.proofs.KernelLaws.{length-subtracted, length-scaled, scaled-outside, scaled-symbol, subtracted-keeps, scaled-keeps}
-use Rattle.poly.specs.Buffers.{Untouched}
+use Rattle.poly.specs.Lent.{Untouched}
 use Rattle.poly.proofs.Series.{readings}
 use Rattle.poly.proofs.Monomials.{delay, delay-zero}
 use Rattle.curves.specs.Curves.{Curve, Lead}

@@ -10,8 +10,8 @@ use lib.Dec.{leb}
 use lib.ListN.{getD}
 use borrow.Author.Tests.{le-leb, lt-leb}
 use Rattle.field.specs.Field.{Ring, Field, FieldLaws}
-use Rattle.field.specs.Symbols.{Listed, Element, symbol, same-byte, symbols}
-use Rattle.field.specs.Operations.{minusBytes, timesBytes}
+use Rattle.field.specs.Symbols.{Element, symbol, same-byte, symbols}
+use Rattle.field.specs.Operations.{minusBytes, timesBytes, Listed}
 use Rattle.field.specs.Kernels.{Region}
 use Rattle.field.proofs.OperationLaws.{symbol-timesBytes}
 use Rattle.field.proofs.SymbolLaws.{symbols-field, symbol-byte, zero-byte}

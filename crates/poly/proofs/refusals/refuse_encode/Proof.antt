@@ -9,13 +9,13 @@ use borrow.Author.Tests.{not-true, not-false}
 use Rattle.field.proofs.SymbolLaws.{is-listed}
 use Rattle.poly.specs.Table.{First, NotListed, BadCount, BadDegree}
 use Rattle.poly.specs.Encode.{encodeTable}
-use Rattle.poly.proofs.TableLaws.{not-listed}
+use Rattle.poly.proofs.TableLaws.{not-unlisted}
 use Rattle.poly.proofs.refusals.refuse_encode.Statement.{statement}
 use Rattle.poly.proofs.refusals.refuse_encode.Tie as tie
 
 -- what the tests passed say
 size : (c : tie.Else1) → NotListed (c .before .before .before .before .before .args .p) → ⊥
-size c n = n (is-listed (sym (c .before .is-listed .ensures) ∙ not-false _ (c .if1 .left)))
+size c = not-unlisted (is-listed (sym (c .before .is-listed .ensures) ∙ not-false _ (c .if1 .left)))
 
 count : (c : tie.Else3) → let s = c .before .before .before .before .before .before .before .args in BadCount (s .p) (length (s .points .now)) → ⊥
 count c b = ⊎-elim (λ w. omega arith) (λ w. omega arith) b
@@ -45,7 +45,7 @@ is-listed-requires : tie.Need-is-listed-requires
 is-listed-requires c κs = search needs
 
 returns : tie.Need-returns
-returns c = inl (not-listed (sym (c .before .is-listed .ensures) ∙ not-true _ (c .if1 .taken)), refl)
+returns c = inl (sym (c .before .is-listed .ensures) ∙ not-true _ (c .if1 .taken), refl)
 
 returns-2 : tie.Need-returns-2
 returns-2 c = inr (size (c .before), inl (inl (c .if2 .taken), refl))

@@ -6,7 +6,7 @@ use native.Mathlib.Omega.{arith}
 use borrow.Author.Needs.{needs}
 use borrow.Author.Tests.{ltb-true, ltb-false, not-true, not-false}
 use Rattle.field.proofs.SymbolLaws.{is-listed}
-use Rattle.poly.proofs.TableLaws.{decided-true, not-listed}
+use Rattle.poly.proofs.TableLaws.{decided-true}
 use Rattle.rows.specs.Jobs.{size, count, degree, heights, row}
 use Rattle.rows.proofs.Notes.{good-heights, not-bad}
 use Rattle.rows.proofs.refusals.bad_note.Statement.{statement}
@@ -16,7 +16,7 @@ is-listed-requires : tie.Need-is-listed-requires
 is-listed-requires c κs = search needs
 
 returns : tie.Need-returns
-returns c = decided-true (size (not-listed (sym (c .before .is-listed .ensures) ∙ not-true _ (c .if1 .taken))))
+returns c = decided-true (size (sym (c .before .is-listed .ensures) ∙ not-true _ (c .if1 .taken)))
 
 returns-2 : tie.Need-returns-2
 returns-2 c = decided-true (count (inl (c .if2 .taken)))

@@ -7,10 +7,10 @@ use native.Mathlib.Omega.{arith}
 use lib.ListN.{drop}
 use borrow.Author.Needs.{needs}
 use borrow.Author.Tests.{not-true, not-false}
-use Rattle.field.specs.Symbols.{Listed}
+use Rattle.field.specs.Operations.{Listed}
 use Rattle.field.proofs.SymbolLaws.{is-listed}
 use Rattle.poly.specs.Table.{Refusal, First}
-use Rattle.poly.proofs.TableLaws.{not-listed}
+use Rattle.poly.proofs.TableLaws.{not-unlisted}
 use Rattle.rows.specs.Jobs.{requestTable}
 use Rattle.rows.proofs.refusals.refuse_request.Statement.{statement}
 use Rattle.rows.proofs.refusals.refuse_request.Tie as tie
@@ -43,7 +43,7 @@ listed : (c : tie.Else1) → Listed (s1 c .args .p)
 listed c = is-listed (sym (c .before .is-listed .ensures) ∙ not-false _ (c .if1 .left))
 
 past-1 : (c : tie.Else1) (n : ℕ) → First (drop 1 (table (s1 c))) n → First (table (s1 c)) n
-past-1 c n f = inr (λ no. no (listed c), f)
+past-1 c n f = inr (not-unlisted (listed c), f)
 
 past-2 : (c : tie.Else3) (n : ℕ) → First (drop 2 (table (s3 c))) n → First (table (s3 c)) n
 past-2 c n f = past-1 (c .before .before) n (inr (⊎-elim (λ w. omega arith) (λ w. omega arith), f))
@@ -73,7 +73,7 @@ is-listed-requires : tie.Need-is-listed-requires
 is-listed-requires c κs = search needs
 
 returns : tie.Need-returns
-returns c = inl (not-listed (sym (c .before .is-listed .ensures) ∙ not-true _ (c .if1 .taken)), refl)
+returns c = inl (sym (c .before .is-listed .ensures) ∙ not-true _ (c .if1 .taken), refl)
 
 returns-2 : tie.Need-returns-2
 returns-2 c = past-1 (c .before) 2 (inl (inl (c .if2 .taken), refl))
