@@ -9,7 +9,7 @@ use native.Mathlib.Decide.{decLe}
 use Rattle.field.specs.Field.{Ring, Field, FieldLaws}
 use Rattle.curves.specs.Curves.{Curve, Zero, Lead, LeadsAt}
 use Rattle.curves.specs.Start.{total}
-use Rattle.curves.specs.Turns.{Due, update, Outcome, Turn, finished, rises, pauses, updates, halts}
+use Rattle.curves.specs.Turns.{Due, updated, Outcome, Turn, finished, rises, pauses, updates, halts}
 use Rattle.curves.specs.Entry.{Sound}
 use Rattle.curves.proofs.Promises.{Fresh}
 use Rattle.curves.proofs.Leads.{lead-unique, lead-nonzero, lead-within, lead-light}
@@ -106,12 +106,12 @@ module _ {F : Field} (Φ : FieldLaws F) where
             let pos = stage-potential (x .stage) .1 k in
             account-open (x .account) k (omega arith) (total-le r l (λ i. i * b i) (d .inside))
 
-        good-next : (Zero R (update F u r w s v rows r) → ⊥) × Good R u W l b r (left - 1) (update F u r w s v rows)
+        good-next : (Zero R (updated F d r) → ⊥) × Good R u W l b r (left - 1) (updated F d)
         good-next =
             let x = busy-at (d .inside) (d .lead) in
             let k = sound-below (g .sound) d in
             let (w′, s′, t, f) = stage-next Φ (g .sound) d (x .stage) in
-            let nonzero : Zero R (update F u r w s v rows r) → ⊥ = lead-nonzero (t .lead) in
+            let nonzero : Zero R (updated F d r) → ⊥ = lead-nonzero (t .lead) in
             let q = x .potential in
             let pos = stage-potential (x .stage) .1 k in
             let low = stage-potential t .0 in

@@ -10,7 +10,7 @@ use Rattle.field.proofs.RingLaws.{add-zero, mul-zero, neg-zero}
 use Rattle.poly.specs.Polynomials.{Below}
 use Rattle.poly.proofs.Monomials.{delay, delay-at, delay-null}
 use Rattle.curves.specs.Curves.{Curve, Lead}
-use Rattle.curves.specs.Turns.{Due, ratio, update}
+use Rattle.curves.specs.Turns.{Due, ratio, updated}
 use Rattle.curves.specs.Entry.{Sound}
 use Rattle.curves.proofs.Promises.{Fresh}
 use Rattle.curves.proofs.Leads.{Smaller, ZeroOrLeads, under-smaller, lead-unique, lead?}
@@ -62,12 +62,12 @@ module _ {F : Field} (Φ : FieldLaws F) {u W l r : ℕ} {rows : ℕ → Curve (F
 
   module _ {w s v D : ℕ} (d : Due R u l r rows w s v) (t : Stage R u r w s D rows) where
     abbrev new : ℕ → Curve R
-    new = update F u r w s v rows
+    new = updated F d
 
     top-stays : (e : ℕ) → D ≤ e → new r r (v - w + e) ≡ rows r r e
     top-stays e le =
         let k = sound-below g d in
-        let c : Car = ratio F u s w v (rows r) (rows s) in
+        let c : Car = ratio F s (d .lead .degree) (d .below .degree) (rows r) (rows s) in
         let z : delay R (w - v) (rows s r) (v - w + e) ≡ 𝟘 =
         delay-null R (w - v) (v - w + e) (rows s r) (λ i x. t .slack s v k (d .below) i (omega arith) (λ y. omega arith)) in
         ap (λ (Q : Curve R). Q r (v - w + e)) (update-r Φ d)

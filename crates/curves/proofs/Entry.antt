@@ -8,7 +8,7 @@ use native.Mathlib.Omega.{arith}
 use native.Mathlib.Decide.{ℕ-discrete}
 use Rattle.field.specs.Field.{Ring, Field, FieldLaws}
 use Rattle.curves.specs.Curves.{Curve, Height, Zero, Under, LeadsAt}
-use Rattle.curves.specs.Turns.{Due, update}
+use Rattle.curves.specs.Turns.{Due, updated}
 use Rattle.curves.specs.Entry.{Sound}
 use Rattle.curves.proofs.Leads.{ZeroOrLeads, under-mono, lead-unique, lead-within, lead-light, lead?}
 use Rattle.curves.proofs.Updates.{Swapped, update-s, update-other, update-lead, update-height, update-under}
@@ -39,7 +39,7 @@ module _ {F : Field} (Φ : FieldLaws F) {u W l r : ℕ} {rows : ℕ → Curve (F
   abbrev R : Ring
   R = F .ring
 
-  pub sound-update : {w s v : ℕ} → Due R u l r rows w s v → (Zero R (update F u r w s v rows r) → ⊥) → Sound R u W l r (update F u r w s v rows)
+  pub sound-update : {w s v : ℕ} (d : Due R u l r rows w s v) → (Zero R (updated F d r) → ⊥) → Sound R u W l r (updated F d)
   sound-update {w} {s} {v} d n =
       record {
         light = λ i k. light i k (ℕ-discrete i r);
@@ -50,7 +50,7 @@ module _ {F : Field} (Φ : FieldLaws F) {u W l r : ℕ} {rows : ℕ → Curve (F
       }
     where
       new : ℕ → Curve R
-      new = update F u r w s v rows
+      new = updated F d
 
       sr : s < r
       sr = sound-below g d

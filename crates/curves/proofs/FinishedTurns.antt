@@ -7,12 +7,13 @@ use Rattle.field.specs.Choices.{put}
 use Rattle.curves.specs.Curves.{Curve}
 use Rattle.curves.specs.Turns.{update, Outcome, stops, counted, Turn, finished, rises, pauses, updates, halts}
 use Rattle.curves.specs.Entry.{Sound}
+use Rattle.curves.proofs.Leads.{lead-of}
 use Rattle.curves.proofs.Entry.{sound-rises, sound-below, sound-update}
 
-update-alike : (F : Field) (u l : ℕ) {r s : ℕ} (w v : ℕ) {rows new : ℕ → Curve (F .ring)} → r ≤ l → s ≤ l → ((i : ℕ) → i ≤ l → new i ≡ rows i)
-    → (i : ℕ) → i ≤ l → update F u r w s v new i ≡ update F u r w s v rows i
+update-alike : (F : Field) (l : ℕ) {r s : ℕ} (a b : ℕ) {rows new : ℕ → Curve (F .ring)} → r ≤ l → s ≤ l → ((i : ℕ) → i ≤ l → new i ≡ rows i)
+    → (i : ℕ) → i ≤ l → update F r s a b new i ≡ update F r s a b rows i
 unfolding update put
-update-alike F u l {r} {s} w v h k same i x = rw (same r h, same s k, same i x)
+update-alike F l {r} {s} a b h k same i x = rw (same r h, same s k, same i x)
 
 module _ {F : Field} (Φ : FieldLaws F) {u W l : ℕ} where
   pub end-alike : {a r : ℕ} {rows new : ℕ → Curve (F .ring)} {o : Outcome F} → Sound (F .ring) u W l r rows → ((i : ℕ) → i ≤ l → new i ≡ rows i)
@@ -25,11 +26,11 @@ module _ {F : Field} (Φ : FieldLaws F) {u W l : ℕ} where
   end-alike {r = r} {new = new} g same (updates w s v d n t) e =
       let h = d .inside in
       let k = sound-below g d in
-      let alike = update-alike F u l {s = s} w v h (omega arith) same in
+      let alike = update-alike F l {s = s} (d .lead .degree) (d .below .degree) h (omega arith) same in
       let (p, q, i, j) = end-alike (sound-update Φ g d n) alike t e in (
         counted F p,
         updates {rows = new} w s v
-            (record { inside = h; lead = rw (same r h) (d .lead); other = d .other; below = rw (same s (omega arith)) (d .below) })
+            (record { inside = h; lead = lead-of (d .lead) (same r h); other = d .other; below = lead-of (d .below) (same s (omega arith)) })
             (λ z. n (rw (alike r h) at z)) q,
         i,
         ap suc j,

@@ -45,6 +45,19 @@ module _ {R : Ring} {u w s : ℕ} {Q : Curve R} (p : Lead R u w s Q) where
   pub lead-nonzero : Zero R Q → ⊥
   lead-nonzero z = p .nonzero (z s (p .degree))
 
+  pub lead-degree : p .degree ≡ w - u * s
+  lead-degree = let e = p .weight in omega arith
+
+  -- a curve that is Q leads with the same term
+  abbrev pub lead-of : {P : Curve R} → P ≡ Q → Lead R u w s P
+  lead-of e =
+      record {
+        degree = p .degree;
+        weight = p .weight;
+        nonzero = λ z. p .nonzero (rw e at z);
+        rest = λ j i le f. rw e (p .rest j i le f);
+      }
+
   pub lead-smaller : (v t : ℕ) → Under R u v t Q → Smaller w s v t
   lead-smaller v t U = rw (p .weight) at (under-smaller R u v t Q U s (p .degree) (p .nonzero))
 

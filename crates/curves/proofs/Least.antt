@@ -3,15 +3,16 @@
 use mathlib.Core.Path.{_≡_, sym, ap, ap₂, _∙_, fun-ext}
 use mathlib.Core.Logic.{inl, inr, _↔_}
 use mathlib.Core.List.{List}
-use Prim.Native.Nat.{ℕ, zero, suc, _-_, _*_, _≤_, _<_}
+use Prim.Native.Nat.{ℕ, zero, suc, _*_, _≤_, _<_}
 use native.Mathlib.Omega.{arith}
 use native.Mathlib.Decide.{decLe, decLt}
 use Rattle.field.specs.Field.{Ring, RingLaws, Field, FieldLaws}
 use Rattle.field.proofs.RingLaws.{add-neg, mul-zero, mul-comm, difference-zero}
 use Rattle.field.proofs.FieldLaws.{no-zero-divisor}
 use Rattle.poly.specs.Polynomials.{Series, addS, negS, mono}
+use Rattle.poly.proofs.Series.{scaleS-at}
 use Rattle.poly.proofs.Monomials.{delay-zero, mono-below}
-use Rattle.curves.specs.Curves.{AtMost, Curve, HasHeight, Under, Lead, LeadsAt, Span, Smallest}
+use Rattle.curves.specs.Curves.{AtMost, Curve, HasHeight, Under, Lead, LeadsAt, xTimes, Span, Smallest}
 use Rattle.curves.specs.Turns.{Outcome}
 use Rattle.curves.specs.Entry.{Sound}
 use Rattle.curves.specs.Finish.{Lightest, monic}
@@ -82,49 +83,52 @@ module _ {F : Field} (Φ : FieldLaws F) where
   infixl 65 _⊕_ _⊞_
   infixl 70 _⊗_
   infix 75 ⊖_ ⊟_
-  pub monic-at : (u w s : ℕ) (Q : Curve R) (j i : ℕ) → monic F u w s Q j i ≡ F .inv (Q s (w - u * s)) ⊗ Q j i
-  monic-at u w s Q j i = let c = F .inv (Q s (w - u * s)) in xTimes-mono L c 0 Q j i ∙ ap (λ (x : Car). c ⊗ x) (delay-zero R (Q j) i)
+  pub monic-at : (s d : ℕ) (Q : Curve R) (j i : ℕ) → monic F s d Q j i ≡ F .inv (Q s d) ⊗ Q j i
+  monic-at s d Q j i = scaleS-at R (F .inv (Q s d)) (Q j) i
 
-  monic-null : (u w s : ℕ) (Q : Curve R) (j i : ℕ) → Q j i ≡ 𝟘 → monic F u w s Q j i ≡ 𝟘
-  monic-null u w s Q j i z = monic-at u w s Q j i ∙ ap (λ (x : Car). F .inv (Q s (w - u * s)) ⊗ x) z ∙ mul-zero L _
+  monic-null : (s d : ℕ) (Q : Curve R) (j i : ℕ) → Q j i ≡ 𝟘 → monic F s d Q j i ≡ 𝟘
+  monic-null s d Q j i z = monic-at s d Q j i ∙ ap (λ (x : Car). F .inv (Q s d) ⊗ x) z ∙ mul-zero L _
+
+  monic-times : (s d : ℕ) (Q : Curve R) → monic F s d Q ≡ xTimes R (mono R (F .inv (Q s d)) 0) Q
+  monic-times s d Q =
+      fun-ext (λ j. fun-ext (λ i.
+      let c = F .inv (Q s d) in
+      monic-at s d Q j i ∙ sym (xTimes-mono L c 0 Q j i ∙ ap (λ (x : Car). c ⊗ x) (delay-zero R (Q j) i))))
 
   -- a curve made monic leads with the same term, whose coefficient is 1; it is zero where it was, and as high
   module _ {u w s : ℕ} {Q : Curve R} (p : Lead R u w s Q) where
     abbrev x : Car
-    x = Q s (w - u * s)
-
-    degree-is : p .degree ≡ w - u * s
-    degree-is = let e = p .weight in omega arith
+    x = Q s (p .degree)
 
     unit : x ⊗ F .inv x ≡ 𝟙
-    unit = Φ .inverse x (λ z. p .nonzero (ap (Q s) degree-is ∙ z))
+    unit = Φ .inverse x (p .nonzero)
 
-    monic-top : monic F u w s Q s (p .degree) ≡ 𝟙
-    monic-top = monic-at u w s Q s (p .degree) ∙ ap (λ n. F .inv x ⊗ Q s n) degree-is ∙ mul-comm L (F .inv x) x ∙ unit
+    monic-top : monic F s (p .degree) Q s (p .degree) ≡ 𝟙
+    monic-top = monic-at s (p .degree) Q s (p .degree) ∙ mul-comm L (F .inv x) x ∙ unit
 
-    pub monic-lead : (q : Lead R u w s (monic F u w s Q)) × (monic F u w s Q s (q .degree) ≡ 𝟙)
+    pub monic-lead : (q : Lead R u w s (monic F s (p .degree) Q)) × (monic F s (p .degree) Q s (q .degree) ≡ 𝟙)
     monic-lead = (
       record {
         degree = p .degree;
         weight = p .weight;
         nonzero = λ z. Φ .one≢zero (sym monic-top ∙ z);
-        rest = λ j i le f. monic-null u w s Q j i (p .rest j i le f);
+        rest = λ j i le f. monic-null s (p .degree) Q j i (p .rest j i le f);
       },
       monic-top,
     )
 
-    pub monic-weight : {v t : ℕ} → Lead R u v t (monic F u w s Q) → v ≡ w
+    pub monic-weight : {v t : ℕ} → Lead R u v t (monic F s (p .degree) Q) → v ≡ w
     monic-weight q = lead-unique q (monic-lead .0) .0
 
-    null-monic : (j i : ℕ) → monic F u w s Q j i ≡ 𝟘 → Q j i ≡ 𝟘
+    null-monic : (j i : ℕ) → monic F s (p .degree) Q j i ≡ 𝟘 → Q j i ≡ 𝟘
     null-monic j i z =
         no-zero-divisor Φ (F .inv x) (Q j i) (λ y. Φ .one≢zero (sym unit ∙ ap (λ (t : Car). x ⊗ t) y ∙ mul-zero L x))
-        (sym (monic-at u w s Q j i) ∙ z)
+        (sym (monic-at s (p .degree) Q j i) ∙ z)
 
-    pub monic-height : {j : ℕ} → HasHeight R Q j → HasHeight R (monic F u w s Q) j
+    pub monic-height : {j : ℕ} → HasHeight R Q j → HasHeight R (monic F s (p .degree) Q) j
     monic-height {j} h =
         record {
-          above = λ i e k. monic-null u w s Q i e (h .above i e k);
+          above = λ i e k. monic-null s (p .degree) Q i e (h .above i e k);
           some = let (e, n) = h .some in (e, λ z. n (null-monic j e z));
         }
 
@@ -132,16 +136,18 @@ module _ {F : Field} (Φ : FieldLaws F) where
     own : (i : ℕ) → i < suc l → LeadsAt R u i (rows i)
     own i k = g .own i (omega arith) k
 
-    pub smallest-lightest : {i w : ℕ} → Lightest R u l rows i w → Smallest R u (Span R (suc l) rows) (monic F u w i (rows i))
+    pub smallest-lightest : {i w : ℕ} (h : Lightest R u l rows i w) → Smallest R u (Span R (suc l) rows) (monic F i (h .lead .degree) (rows i))
     smallest-lightest {i} {w} h =
         let p = monic-lead (h .lead) in
         let k = h .inside in
         record {
-          member = span-xTimes L 1 (mono R (F .inv (rows i i (w - u * i))) 0) (mono-below L _ 0) (span-row L i (omega arith));
+          member =
+              rw (monic-times i (h .lead .degree) (rows i))
+              (span-xTimes L 1 (mono R (F .inv (rows i i (h .lead .degree))) 0) (mono-below L _ 0) (span-row L i (omega arith)));
           weight = w;
           power = i;
           lead = p .0;
-          monic = p .1;
+          leading-one = p .1;
           least = λ Q s v t q. go v t (span-lead Φ u rows (suc l) own s q);
         }
       where
@@ -200,7 +206,7 @@ module _ {F : Field} (Φ : FieldLaws F) where
           let d : u * q .power ≡ u * p .power = ap (λ n. u * n) (same .1) in
           let k : i ≡ p .lead .degree = omega arith in
           let m : i ≡ q .lead .degree = omega arith in
-          ap₂ (λ (x y : Car). x ⊕ ⊖ y) (ap (P (p .power)) k ∙ p .monic) (ap₂ Q (sym (same .1)) m ∙ q .monic) ∙ add-neg L 𝟙)
+          ap₂ (λ (x y : Car). x ⊕ ⊖ y) (ap (P (p .power)) k ∙ p .leading-one) (ap₂ Q (sym (same .1)) m ∙ q .leading-one) ∙ add-neg L 𝟙)
 
       go : ZeroOrLeads R u (P ⊞ ⊟ Q) → P ≡ Q
       go (inl z) = fun-ext (λ j. fun-ext (λ i. difference-zero L (P j i) (Q j i) (z j i)))
@@ -232,12 +238,12 @@ module _ {F : Field} (Φ : FieldLaws F) where
         weight = p .weight;
         power = p .power;
         lead = p .lead;
-        monic = p .monic;
+        leading-one = p .leading-one;
         least = λ Q m. p .least Q (same Q .1 m);
       }
 
   -- the work from fresh rows to its end: the lightest row made monic is the smallest of the curves that the rows at the start span
   pub promised-smallest : {u W l : ℕ} {b : ℕ → ℕ} {start : ℕ → Curve R} {list : List ℕ} {o : Outcome F} → Promised F u W l b start list o
       → o .row ≡ suc l
-      → {i w : ℕ} → Lightest R u l (o .rows) i w → Smallest R u (Span R (suc l) start) (monic F u w i (o .rows i))
+      → {i w : ℕ} (h : Lightest R u l (o .rows) i w) → Smallest R u (Span R (suc l) start) (monic F i (h .lead .degree) (o .rows i))
   promised-smallest p e h = smallest-same (λ Q. let s = p .kept .same Q in (s .1, s .0)) (smallest-lightest (rw e at (p .kept .sound)) h)

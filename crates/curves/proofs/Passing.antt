@@ -48,7 +48,7 @@ module _ {F : Field} (Φ : FieldLaws F) {u W l : ℕ} {b : ℕ → ℕ} {Member 
     run-generates Q = let s = promised .kept .same Q in (λ x. g .generates Q .0 (s .1 x), λ x. s .0 (g .generates Q .1 x))
 
     module _ (end : o .row ≡ suc l) where
-      pub run-smallest : {i w : ℕ} → Lightest (F .ring) u l (o .rows) i w → Smallest (F .ring) u Member (monic F u w i (o .rows i))
+      pub run-smallest : {i w : ℕ} (h : Lightest (F .ring) u l (o .rows) i w) → Smallest (F .ring) u Member (monic F i (h .lead .degree) (o .rows i))
       run-smallest h = smallest-same Φ (g .generates) (promised-smallest Φ promised end h)
 
       sound : Sound (F .ring) u W l (suc l) (o .rows)
@@ -83,4 +83,4 @@ module _ {F : Field} (Φ : FieldLaws F) {n k m l : ℕ} {a v : ℕ → F .ring .
       let end = promised Φ g run .finished (omega arith) (omega arith) in
       let (i, w, lightest) = run-lightest Φ g run end in
       let s = run-smallest Φ g run end lightest in
-      (monic F (k - 1) w i (o .rows i), s, λ P p. run-unique Φ g run end P (monic F (k - 1) w i (o .rows i)) p s)
+      (_, s, λ P p. run-unique Φ g run end P _ p s)

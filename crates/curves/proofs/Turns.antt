@@ -6,7 +6,7 @@ use native.Mathlib.Omega.{arith}
 use native.Mathlib.Decide.{ℕ-discrete}
 use Rattle.field.specs.Field.{Field, FieldLaws}
 use Rattle.curves.specs.Curves.{Curve, Zero, Lead}
-use Rattle.curves.specs.Turns.{Due, update, Outcome, stops, counted, Turn, finished, rises, pauses, updates, halts}
+use Rattle.curves.specs.Turns.{Due, updated, Outcome, stops, counted, Turn, finished, rises, pauses, updates, halts}
 use Rattle.curves.specs.Entry.{Sound}
 use Rattle.curves.proofs.Promises.{Preserved}
 use Rattle.curves.proofs.Leads.{ZeroOrLeads, lead-nonzero, lead-within, lead?}
@@ -29,7 +29,7 @@ module _ {F : Field} (Φ : FieldLaws F) {u W l : ℕ} where
       let i = d .inside in
       let k = turn-keeps h (sound-update Φ g d n) t in
       let e = update-same Φ d (suc l) (omega arith) (omega arith) in
-      record { inside = k .inside; sound = k .sound; same = same-trans (F .ring) (suc l) rows (update F u r w s v rows) (o .rows) e (k .same) }
+      record { inside = k .inside; sound = k .sound; same = same-trans (F .ring) (suc l) rows (updated F d) (o .rows) e (k .same) }
   turn-keeps h g (halts w s v d n) = kept-still 11 h g
 
 -- where the current row comes to rest, from row r on
@@ -91,7 +91,7 @@ module _ {F : Field} (Φ : FieldLaws F) {u W l : ℕ} where
           let i = d .inside in t .sound .low s (omega arith) (omega arith)))
         where
           new : ℕ → Curve (F .ring)
-          new = update F u (t .row) w s v rows
+          new = updated F d
 
           made : (Zero (F .ring) (new (t .row)) → ⊥) → (o : Outcome F) × Turn F u l (suc a) rows r o
           made n = let m = more (t .row) new (t .inside) (sound-update Φ (t .sound) d n) in

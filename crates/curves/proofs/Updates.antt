@@ -1,7 +1,7 @@
 -- One update: the new row r is zero or leads with a smaller term, row s leads at y^s again, and the span stays.
 use mathlib.Core.Path.{_≡_, refl, sym, ap, _∙_}
 use mathlib.Core.Logic.{_≢_, _⊎_, inl, inr}
-use Prim.Native.Nat.{ℕ, zero, suc, _+_, _-_, _*_, _≤_, _<_, max, min}
+use Prim.Native.Nat.{ℕ, zero, suc, _+_, _-_, _≤_, _<_, max, min}
 use native.Mathlib.Omega.{arith}
 use native.Mathlib.Decide.{decLe, ℕ-discrete}
 use Rattle.field.specs.Field.{Ring, RingLaws, Field, FieldLaws}
@@ -9,7 +9,7 @@ use Rattle.field.specs.Choices.{choose, put}
 use Rattle.field.proofs.RingLaws.{zero-mul, mul-assoc, mul-comm, mul-one}
 use Rattle.field.proofs.Choices.{put-same, put-other}
 use Rattle.curves.specs.Curves.{Curve, Height, Under, Lead, Span}
-use Rattle.curves.specs.Turns.{cross, Due, ratio, update}
+use Rattle.curves.specs.Turns.{cross, Due, ratio, update, updated}
 use Rattle.curves.proofs.Leads.{Smaller, ZeroOrLeads, under-mono, lead-smaller, lead?}
 use Rattle.curves.proofs.Crossing.{cross-height, cross-under}
 use Rattle.curves.proofs.Spans.{span-row, span-trans, span-cross, span-uncross-left, span-uncross-right, Same}
@@ -28,29 +28,30 @@ module _ {F : Field} (Φ : FieldLaws F) where
   open Ring (F .ring) using (Car, 𝟘, times as _⊗_)
 
   infixl 70 _⊗_
-  ratio-at : (u s w v : ℕ) (P Q : Curve R) → ratio F u s w v P Q ≡ P s (w - u * s) ⊗ F .inv (Q s (v - u * s))
-  unfolding ratio
-  ratio-at u s w v P Q = refl
+  -- the ratio of the leading coefficients
+  abbrev over : {u s w v : ℕ} {P Q : Curve R} → Lead R u w s P → Lead R u v s Q → Car
+  over {s = s} {P = P} {Q} p q = ratio F s (p .degree) (q .degree) P Q
 
-  pub ratio-is : {u s w v : ℕ} {P Q : Curve R} (p : Lead R u w s P) (q : Lead R u v s Q) → ratio F u s w v P Q ⊗ Q s (q .degree) ≡ P s (p .degree)
-  ratio-is {u} {s} {w} {v} {P} {Q} p q =
-      let pw = p .weight in
-      let qw = q .weight in
-      let i : w - u * s ≡ p .degree = omega arith in
-      let k : v - u * s ≡ q .degree = omega arith in
+  ratio-is : {u s w v : ℕ} {P Q : Curve R} (p : Lead R u w s P) (q : Lead R u v s Q) → over p q ⊗ Q s (q .degree) ≡ P s (p .degree)
+  unfolding ratio
+  ratio-is {s = s} {P = P} {Q} p q =
       let x : Car = Q s (q .degree) in
-      rw (ratio-at u s w v P Q, i, k, mul-assoc L (P s (p .degree)) (F .inv x) x, mul-comm L (F .inv x) x, Φ .inverse x (q .nonzero)) (mul-one L _)
+      rw (mul-assoc L (P s (p .degree)) (F .inv x) x, mul-comm L (F .inv x) x, Φ .inverse x (q .nonzero)) (mul-one L _)
 
   module _ {u l r w s v : ℕ} {rows : ℕ → Curve R} (d : Due R u l r rows w s v) where
     abbrev new : ℕ → Curve R
-    new = update F u r w s v rows
+    new = updated F d
 
     abbrev c : Car
-    c = ratio F u s w v (rows r) (rows s)
+    c = over (d .lead) (d .below)
+
+    -- the two lead at the same power of y, so their degrees differ as their weights do
+    fall : (d .below .degree - d .lead .degree ≡ v - w) × (d .lead .degree - d .below .degree ≡ w - v)
+    fall = let a = d .lead .weight in let b = d .below .weight in (omega arith, omega arith)
 
     pub update-r : new r ≡ cross R (v - w) (rows r) c (w - v) (rows s)
     unfolding update
-    update-r = put-same r _ _
+    update-r = put-same r _ _ ∙ rw (fall .0, fall .1) refl
 
     pub update-other : (i : ℕ) → i ≢ r → i ≢ s → new i ≡ rows i
     unfolding update
@@ -58,12 +59,14 @@ module _ {F : Field} (Φ : FieldLaws F) where
 
     pub update-s : Swapped R w v (rows r) (rows s) (new s)
     unfolding update
-    update-s = go (decLe v w)
+    update-s = go (decLe (d .below .degree) (d .lead .degree))
       where
-        go : (t : Dec (v ≤ w))
-            → Swapped R w v (rows r) (rows s) (put r (cross R (v - w) (rows r) c (w - v) (rows s)) (put s (choose t (rows s) (rows r)) rows) s)
-        go (yes h) = inl (h, put-other r _ _ s (d .other) ∙ put-same s _ rows)
-        go (no h) = inr (omega arith, put-other r _ _ s (d .other) ∙ put-same s _ rows)
+        first : Curve R
+        first = cross R (d .below .degree - d .lead .degree) (rows r) c (d .lead .degree - d .below .degree) (rows s)
+
+        go : (t : Dec (d .below .degree ≤ d .lead .degree)) → Swapped R w v (rows r) (rows s) (put r first (put s (choose t (rows s) (rows r)) rows) s)
+        go (yes h) = let a = d .lead .weight in let b = d .below .weight in inl (omega arith, put-other r _ _ s (d .other) ∙ put-same s _ rows)
+        go (no h) = let a = d .lead .weight in let b = d .below .weight in inr (omega arith, put-other r _ _ s (d .other) ∙ put-same s _ rows)
 
     pub update-lead : Lead R u (min w v) s (new s)
     update-lead = go update-s

@@ -92,7 +92,7 @@ module _ {F : Field} (Φ : FieldLaws F) where
                 nonzero = λ z. Φ .one≢zero (sym top ∙ z);
                 rest = λ j t le over. rest j t over le (ℕ-discrete j m);
               };
-          monic = top;
+          leading-one = top;
           least = λ P mem v t p. least v t (p .degree) (p .weight) (member-degree P mem v t p) (decLe m t);
         }
       where

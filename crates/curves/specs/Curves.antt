@@ -1,7 +1,7 @@
 -- Curves: polynomials in x and y, one x-polynomial for each power of y. With u = k - 1, the term x^i y^j weighs i + u j. Rules: sections 3 and 4.
 --   Curve R          Q j i is the coefficient of x^i y^j
---   Finite Q         finitely many powers of x
---   Height h Q       fewer than h powers of y
+--   Finite Q         no power of x from some x^M on
+--   Height h Q       no power of y from y^h on
 --   HasHeight Q j    the largest power of y in the nonzero curve Q is j
 --   Zero Q           the zero curve
 --   AtMost w s v t   a term of weight w and power s of y is not larger than one of weight v and power t
@@ -12,7 +12,7 @@
 --   Span n rows Q    Q is a sum of the first n rows, each times a polynomial in x
 --   Smallest         of the curves of a set, the monic nonzero one with the smallest leading term
 -- Multiplicity at a point is by the coefficients of Q (x + a, y + b), with their binomials.
---   shifted M N a b Q i j     the coefficient of x^i y^j in Q (x + a, y + b), Q having fewer than M powers of x and N of y
+--   shifted M N a b Q i j     the coefficient of x^i y^j in Q (x + a, y + b), Q having no power from x^M and none from y^N on
 --   Multiplicity m M N a b Q  every such coefficient with i + j < m is zero
 --   Passing n m l a v Q       Q is zero or one of the curves of demand 2: height at most l, and at each of the n received points
 --                             (a_s, v_s) multiplicity at least m
@@ -68,7 +68,7 @@ module _ (R : Ring) where
     pub weight : ℕ
     pub power : ℕ
     pub lead : Lead u weight power Q
-    pub monic : Q power (lead .degree) ≡ R .𝟙
+    pub leading-one : Q power (lead .degree) ≡ R .𝟙
     pub least : (P : Curve) → Member P → (v t : ℕ) → Lead u v t P → AtMost weight power v t
 
   unfoldable pub shifted : ℕ → ℕ → R .Car → R .Car → Curve → ℕ → ℕ → R .Car

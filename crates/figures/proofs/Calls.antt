@@ -12,7 +12,7 @@ use Rattle.field.specs.Field.{FieldLaws}
 use Rattle.field.specs.Symbols.{symbols, symbolsOf}
 use Rattle.field.proofs.SymbolLaws.{symbols-field, zero-byte}
 use Rattle.poly.specs.Polynomials.{Seq, Through, locator}
-use Rattle.poly.proofs.Interpolating.{places-distinct}
+use Rattle.poly.proofs.Interpolating.{places-distinct, places-only}
 use Rattle.curves.specs.Curves.{Curve, Smallest}
 use Rattle.curves.specs.Start.{startRow}
 use Rattle.curves.specs.Turns.{Outcome, Turn}
@@ -20,16 +20,16 @@ use Rattle.curves.specs.Entry.{Sound}
 use Rattle.curves.specs.Finish.{Lightest, monic}
 use Rattle.curves.specs.Curves.{HasHeight}
 use Rattle.curves.proofs.Promises.{Fresh, none, turn}
-use Rattle.curves.proofs.Leads.{lead-unique}
+use Rattle.curves.proofs.Leads.{lead-degree}
 use Rattle.curves.proofs.Heights.{height-unique}
-use Rattle.curves.proofs.Least.{monic-lead, weight-unique}
+use Rattle.curves.proofs.Least.{monic-weight, weight-unique}
 use Rattle.curves.proofs.Determined.{rule-determined}
 use Rattle.curves.proofs.Turns.{turn-keeps}
 use Rattle.curves.proofs.StartRows.{start-fresh}
 use Rattle.curves.proofs.FlatRows.{turn-flat}
 use Rattle.curves.proofs.Runs.{fresh-enters}
 use Rattle.curves.proofs.Passing.{begins-start, run-smallest}
-use Rattle.rows.specs.Bytes.{slot, curveBytes, rowsOf, HoldsCurve}
+use Rattle.rows.specs.Bytes.{slot, curveBytes, rowsOf, Holds, HoldsCurve}
 use Rattle.rows.specs.Jobs.{HasTurned, Goes}
 use Rattle.rows.specs.Demands.{Request, ringFor, shapeFor, noteFor, updatesBound, Member, Begun, HandsCurve, started}
 use Rattle.rows.specs.declared.Shape.{Shape}
@@ -65,7 +65,7 @@ module _ (q : Request) where
         → Turn (symbols (q .p)) (q .k - 1) (q .l) a rows 1 (record { number = 0; rows = left rows; row = suc (q .l); updates = made })
     pub lightest : (rows : ℕ → Curve (ringFor q)) → AtStart h rows → Lightest (ringFor q) (q .k - 1) (q .l) (left rows) row weight
     pub long : length bytes ≡ curveBytes (shapeFor q)
-    pub holds : HoldsCurve (shapeFor q) bytes (monic (symbols (q .p)) (q .k - 1) weight row (left (startFor h) row))
+    pub holds : HoldsCurve (shapeFor q) bytes (monic (symbols (q .p)) row (weight - (q .k - 1) * row) (left (startFor h) row))
     pub top : getD bytes (q .l * slot (shapeFor q) + 0) 0 ≢ 0
 
 module _ {q : Request} {lent : List ℕ} (known : Accepted (q .p) (q .points) (q .word) (q .k) (q .m) (q .l) lent) {made row weight : ℕ}
@@ -74,7 +74,7 @@ module _ {q : Request} {lent : List ℕ} (known : Accepted (q .p) (q .points) (q
   start = startFor q (z .h)
 
   abbrev pub curveFor : Curve (ringFor q)
-  curveFor = monic (symbols (q .p)) (q .k - 1) weight row (z .left start row)
+  curveFor = monic (symbols (q .p)) row (weight - (q .k - 1) * row) (z .left start row)
 
   Φ : FieldLaws (symbols (q .p))
   Φ = symbols-field (q .p) (known .places .size)
@@ -86,7 +86,9 @@ module _ {q : Request} {lent : List ℕ} (known : Accepted (q .p) (q .points) (q
       let low = known .low in
       let begins = begins-start Φ (places-distinct (known .places)) (omega arith) (known .degree) (known .heights .order) (z .through) in
       let s = run-smallest Φ begins (turn (z .turn (updatesBound q) (omega arith) start (λ i k. refl)) none) refl light in
-      (s, lead-unique (s .lead) (monic-lead Φ (light .lead) .0) .0)
+      let made : (s : Smallest (ringFor q) (q .k - 1) (Member q) (monic (symbols (q .p)) row (light .lead .degree) (z .left start row)))
+      × (s .weight ≡ weight) = (s, monic-weight Φ (light .lead) (s .lead)) in
+      rw (lead-degree (light .lead)) at made
 
 -- bytes that hold a curve begin with its bytes
 curve-bytes : (S : Shape) (Q : Curve (symbols (S .p) .ring)) (xs bytes : List ℕ) → curveBytes S ≤ length xs → length bytes ≡ curveBytes S
@@ -132,8 +134,11 @@ module _ {q : Request} (c : Calls q) (ok : c .start .number ≡ 0) where
 
     at-start : AtStart q (z .h) rows
     at-start i k =
-        holds-row (shapeFor q) (c .rows) k (startFor q (z .h) i) (λ j e. c .starts .rows ok (z .h) (z .through) i j e k)
+        holds-row (shapeFor q) (c .rows) k (startFor q (z .h) i) (λ j e. holds i j e k)
         (λ j e x. fresh i k .height j e (omega arith)) (fresh i k .within)
+      where
+        holds : Holds (shapeFor q) (c .rows) (startFor q (z .h))
+        holds = let s = c .starts .rows ok in rw (places-only (calls-accepted .places) (s .through) (z .through)) at (s .holds)
 
     worked-turn : Turn (symbols (q .p)) (q .k - 1) (q .l) (c .allowance) rows 1
         (record { number = 0; rows = z .left rows; row = suc (q .l); updates = made })

@@ -67,7 +67,7 @@ abbrev bytes : List ℕ
 bytes = (0 ∷ 0 ∷ 0 ∷ 0 ∷ 0 ∷ 0 ∷ 0 ∷ []) ++ (0 ∷ 0 ∷ 0 ∷ 0 ∷ 0 ∷ 0 ∷ 0 ∷ []) ++ (1 ∷ 0 ∷ 0 ∷ 0 ∷ 0 ∷ 0 ∷ 0 ∷ [])
 
 abbrev curve : Curve R
-curve = monic F 1 2 2 (start 2)
+curve = monic F 2 0 (start 2)
 
 holds : HoldsCurve (shapeFor q) bytes curve
 unfolding symbol sumOf productOf negativeOf inverseOf pow prod zeroS oneS addS negS scaleS mulS consS constS xS lin startRow mono

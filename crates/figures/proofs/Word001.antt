@@ -14,10 +14,10 @@ use Rattle.poly.proofs.CoprimePowers.{distinct-apart}
 use Rattle.poly.proofs.Interpolation.{interpolant-unique}
 use Rattle.curves.specs.Curves.{Curve, Zero, Lead}
 use Rattle.curves.specs.Start.{startRow, total}
-use Rattle.curves.specs.Turns.{cross, ratio, update, Due, Turn, finished, rises, updates}
+use Rattle.curves.specs.Turns.{cross, Due, ratio, update, updated, stops, Turn, finished, rises, updates}
 use Rattle.curves.specs.Entry.{Sound}
 use Rattle.curves.specs.Finish.{monic}
-use Rattle.curves.proofs.Leads.{seek, look, pick, lead-found}
+use Rattle.curves.proofs.Leads.{lead-degree, lead-of, seek, look, pick, lead-found}
 use Rattle.curves.proofs.Entry.{sound-update}
 use Rattle.curves.proofs.Updates.{update-lead}
 use Rattle.curves.proofs.Least.{lightest-one, lightest-stays}
@@ -62,55 +62,63 @@ unfolding symbol sumOf productOf negativeOf sameSymbol pow prod zeroS oneS addS 
     ℕ-discrete
 lead = lead-found F 1 (start 1) 2 4 (sound .low 1 (omega arith) (omega arith)) (sound .light 1 (omega arith)) refl
 
-abbrev updated : (ℕ → Curve R) → ℕ → Curve R
-updated = update F 1 1 2 0 3
+-- row 1 leads at x^2, row 0 at x^3
+abbrev new : (ℕ → Curve R) → ℕ → Curve R
+new = update F 1 0 2 3
 
 module _ (rows : ℕ → Curve R) (at : AtStart q h rows) where
   due : Due R 1 1 1 rows 2 0 3
   due =
       record {
         inside = omega arith;
-        lead = rw (at 1 (omega arith)) lead;
+        lead = lead-of lead (at 1 (omega arith));
         other = λ e. omega arith;
-        below = rw (at 0 (omega arith)) (start-first seven-laws 1 thr 1);
+        below = lead-of (start-first seven-laws 1 thr 1) (at 0 (omega arith));
       }
 
-  updated-same : updated rows 1 ≡ updated start 1
+  due-new : updated F due ≡ new rows
+  due-new = rw (lead-degree (due .lead), lead-degree (due .below)) refl
+
+  new-same : new rows 1 ≡ new start 1
   unfolding put update decLe ℕ-discrete
-  updated-same = rw (at 0 (omega arith), at 1 (omega arith))
+  new-same = rw (at 0 (omega arith), at 1 (omega arith))
 
 -- its coefficient of x y is 1
-updated-nonzero : Zero R (updated start 1) → ⊥
+new-nonzero : Zero R (new start 1) → ⊥
 unfolding symbol sumOf productOf negativeOf inverseOf pow prod zeroS oneS addS negS scaleS mulS consS constS xS lin startRow mono put cross ratio
     update decLe ℕ-discrete
-updated-nonzero z = let e : _≡_ {A = ℕ} 1 0 = ap (λ (x : Element 7). x .byte) (z 1 1) in omega arith
+new-nonzero z = let e : _≡_ {A = ℕ} 1 0 = ap (λ (x : Element 7). x .byte) (z 1 1) in omega arith
 
-updated-sound : Sound R 1 3 1 1 (updated start)
-updated-sound = sound-update seven-laws sound (due start (λ i k. refl)) updated-nonzero
+new-sound : Sound R 1 3 1 1 (new start)
+new-sound =
+    let is = due-new start (λ i k. refl) in
+    rw is at (sound-update seven-laws sound (due start (λ i k. refl)) (rw is new-nonzero))
 
-updated-leads : Lead R 1 2 1 (updated start 1)
+new-leads : Lead R 1 2 1 (new start 1)
 unfolding symbol sumOf productOf negativeOf inverseOf sameSymbol pow prod zeroS oneS addS negS scaleS mulS consS constS xS lin startRow mono put
     cross ratio update seek look pick decLe ℕ-discrete
-updated-leads = lead-found F 1 (updated start 1) 2 4 (updated-sound .low 1 (omega arith) (omega arith)) (updated-sound .light 1 (omega arith)) refl
+new-leads = lead-found F 1 (new start 1) 2 4 (new-sound .low 1 (omega arith) (omega arith)) (new-sound .light 1 (omega arith)) refl
 
 pub formula-is-one : updatesBound q ≡ 1
 unfolding total
 formula-is-one = refl
 
 module _ (rows : ℕ → Curve R) (at : AtStart q h rows) where
-  lead-1 : Lead R 1 2 1 (updated rows 1)
-  lead-1 = rw (updated-same rows at) updated-leads
+  lead-1 : Lead R 1 2 1 (new rows 1)
+  lead-1 = rw (new-same rows at) new-leads
 
-  turn : (a : ℕ) → 1 ≤ a → Turn F 1 1 a rows 1 (record { number = 0; rows = updated rows; row = 2; updates = 1 })
+  turn : (a : ℕ) → 1 ≤ a → Turn F 1 1 a rows 1 (record { number = 0; rows = new rows; row = 2; updates = 1 })
   turn zero le = absurd (omega arith)
   turn (suc a) le =
-      updates 2 0 3 (due rows at) (rw (updated-same rows at) updated-nonzero) (rises {r = 1} 2 (omega arith) lead-1 (finished {r = 2} (omega arith)))
+      let is = due-new rows at in
+      updates {a = a} {o = stops F 0 (new rows) 2} 2 0 3 (due rows at) (rw (is, new-same rows at) new-nonzero)
+      (rw is (rises {r = 1} 2 (omega arith) lead-1 (finished {r = 2} (omega arith))))
 
 abbrev bytes : List ℕ
 bytes = (2 ∷ 4 ∷ 1 ∷ 0 ∷ []) ++ (5 ∷ 0 ∷ 0 ∷ 0 ∷ [])
 
 abbrev curve : Curve R
-curve = monic F 1 2 0 (updated start 0)
+curve = monic F 0 2 (new start 0)
 
 holds : HoldsCurve (shapeFor q) bytes curve
 unfolding symbol sumOf productOf negativeOf inverseOf pow prod zeroS oneS addS negS scaleS mulS consS constS xS lin startRow mono put cross ratio
@@ -122,9 +130,10 @@ worked-0-0-1 =
     record {
       h = h;
       through = thr;
-      left = updated;
+      left = new;
       turn = λ a le rows at. turn rows at a (rw formula-is-one at le);
-      lightest = λ rows at. lightest-stays (lightest-one (updated rows) (update-lead seven-laws (due rows at))) (lead-1 rows at) (omega arith);
+      lightest = λ rows at.
+          lightest-stays (lightest-one (new rows) (rw (due-new rows at) at (update-lead seven-laws (due rows at)))) (lead-1 rows at) (omega arith);
       long = refl;
       holds = holds;
       top = λ e. omega arith;

@@ -59,7 +59,7 @@ abbrev bytes : List ℕ
 bytes = (0 ∷ 6 ∷ 0 ∷ 0 ∷ []) ++ (1 ∷ 0 ∷ 0 ∷ 0 ∷ [])
 
 abbrev curve : Curve R
-curve = monic F 1 1 1 (start 1)
+curve = monic F 1 0 (start 1)
 
 holds : HoldsCurve (shapeFor q) bytes curve
 unfolding symbol sumOf productOf negativeOf inverseOf pow prod zeroS oneS addS negS scaleS mulS consS constS xS lin startRow mono

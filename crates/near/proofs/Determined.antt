@@ -7,14 +7,11 @@ use native.Mathlib.Decide.{ℕ-discrete, decLt}
 use native.Mathlib.Omega.{arith}
 use lib.ListN.{length, getD}
 use lib.Seq.{getD-take}
-use Rattle.field.specs.Symbols.{symbols, symbolsOf}
-use Rattle.field.proofs.SymbolLaws.{symbols-field}
+use Rattle.field.specs.Symbols.{symbols}
 use Rattle.poly.specs.Buffers.{Places}
 use Rattle.poly.specs.Limits.{workingRoom}
 use Rattle.poly.proofs.TableLaws.{first-determined}
-use Rattle.poly.proofs.CoprimePowers.{distinct-apart}
-use Rattle.poly.proofs.Interpolation.{interpolant-unique}
-use Rattle.poly.proofs.Interpolating.{places-distinct}
+use Rattle.poly.proofs.Interpolating.{places-only}
 use Rattle.poly.proofs.BufferLaws.{untouched-unique}
 use Rattle.curves.specs.Turns.{Outcome}
 use Rattle.curves.proofs.Determined.{end-determined}
@@ -34,10 +31,7 @@ near-same {a} {b} n c u w =
 module _ {p : ℕ} {points word : List ℕ} {k m l : ℕ} (places : Places p points word) where
   pub updates-unique : {x y : ℕ} → RuleUpdates p points word k m l x → RuleUpdates p points word k m l y → x ≡ y
   updates-unique a b =
-      let Φ = symbols-field p (places .size) in
-      let apart = distinct-apart Φ (length points) (symbolsOf p points) (places-distinct places) in
-      let e : b .h ≡ a .h =
-      interpolant-unique (Φ .ring) (length points) (symbolsOf p points) (symbolsOf p word) (b .h) (a .h) apart (b .through) (a .through) in
+      let e = places-only places (b .through) (a .through) in
       a .are ∙ ap (λ (o : Outcome (symbols p)). o .updates) (end-determined (a .turn) (a .finished) (rw e at (b .turn)) (b .finished)) ∙ sym (b .are)
 
   lists-determined : {t w v : ℕ} {before after also : List ℕ} {x y : Near} → w ≡ v → Lists p points word k m l t w before after x

@@ -19,7 +19,6 @@ use Rattle.poly.specs.Limits.{workingRoom}
 use Rattle.poly.specs.Lent.{Untouched}
 use Rattle.poly.specs.Lent.{Zeroed}
 use Rattle.poly.proofs.TableLaws.{first-determined, first-passed, passed-first}
-use Rattle.poly.proofs.Interpolation.{interpolate}
 use Rattle.poly.proofs.Interpolating.{places-distinct}
 use Rattle.poly.proofs.BufferLaws.{untouched-then}
 use Rattle.curves.specs.Curves.{Curve, Under}
@@ -132,14 +131,14 @@ module _ {p : ℕ} {points word : List ℕ} {k m l : ℕ} {room rows new lent cu
       let Φ = symbols-field p (accepted .places .size) in
       let points-apart = places-distinct (accepted .places) in
       let low = accepted .low in
-      let (h, thr) = interpolate Φ (length points) (symbolsOf p points) (symbolsOf p word) points-apart in
-      let b = begins-start Φ points-apart (omega arith) (accepted .degree) (accepted .heights .order) thr in
-      let first : ℕ → Curve (ringFor q) = startRow (ringFor q) m (locator (ringFor q) (length points) (symbolsOf p points)) h in
+      let s = begun .0 .rows (begun .1) in
+      let b = begins-start Φ points-apart (omega arith) (accepted .degree) (accepted .heights .order) (s .through) in
+      let first : ℕ → Curve (ringFor q) = startRow (ringFor q) m (locator (ringFor q) (length points) (symbolsOf p points)) (s .h) in
       let same : (i : ℕ) → i ≤ l → rowsOf (shapeFor q) rows i ≡ first i = λ i g.
-      holds-row (shapeFor q) rows g (first i) (λ j e. begun .0 .rows (begun .1) h thr i j e g) (λ j e x. b .fresh i g .height j e (omega arith))
+      holds-row (shapeFor q) rows g (first i) (λ j e. s .holds i j e g) (λ j e x. b .fresh i g .height j e (omega arith))
       (b .fresh i g .within) in
       let (o, t, e, u) = end-alike Φ (fresh-enters Φ (begins-same Φ same b .fresh)) (λ i g. sym (same i g)) (goes .turn) at-end in
-      record { h = h; through = thr; allowance = allowanceMost; outcome = o; turn = t; finished = e; are = goes .updates ∙ sym u }
+      record { h = s .h; through = s .through; allowance = allowanceMost; outcome = o; turn = t; finished = e; are = goes .updates ∙ sym u }
 
   pub curve-found : curveBytes (shapeFor q) ≤ length lent
       → FoundCurve p points word k m l room new lent curve (record { updates = turn .updates; weight = finish .weight })

@@ -64,6 +64,15 @@ interpolated-none {p} {points} l =
     one zero g = sym (symbol-own p (let q = l .large in omega arith))
     one (suc i) g = other (32 + suc i) (omega arith) (λ z. omega arith) ∙ sym (zero-byte p)
 
+-- one polynomial goes through the places, and no other
+pub places-only : {p : ℕ} {points word : List ℕ} → Places p points word → {g h : Seq (symbols p .ring)}
+    → Through (symbols p .ring) (length points) (symbolsOf p points) (symbolsOf p word) g
+    → Through (symbols p .ring) (length points) (symbolsOf p points) (symbolsOf p word) h → g ≡ h
+places-only {p} {points} {word} P {g} {h} =
+    let Φ = symbols-field p (P .size) in
+    interpolant-unique (Φ .ring) (length points) (symbolsOf p points) (symbolsOf p word) g h
+    (distinct-apart Φ (length points) (symbolsOf p points) (places-distinct P))
+
 module _ {p : ℕ} {points word work : List ℕ} {s : ℕ} (P : Places p points word) (t : Interpolated p points word s work) where
   abbrev R : Ring
   R = symbols p .ring
@@ -83,13 +92,6 @@ module _ {p : ℕ} {points word work : List ℕ} {s : ℕ} (P : Places p points 
           let long = t .long in
           let is : i ≡ 32 + (i - 32) = omega arith in
           rw (is, t .high (i - 32) (omega arith)) (byte-below (P .size) (e (i - 32)))
-
-  -- no other polynomial goes through the places, so the bytes are fixed
-  pub interpolated-only : s ≤ length points → {g : Seq R} → Through R s (symbolsOf p points) (symbolsOf p word) g → t .h ≡ g
-  interpolated-only l {g} through =
-      let distinct : Distinct R s (symbolsOf p points) = λ i j k q. places-distinct P i j (omega arith) (omega arith) in
-      interpolant-unique (Φ .ring) s (symbolsOf p points) (symbolsOf p word) (t .h) g (distinct-apart Φ s (symbolsOf p points) distinct)
-      (t .through) through
 
   length-low : length (take 32 work) ≡ 32
   length-low = let long = t .long in simp length-take (omega arith)

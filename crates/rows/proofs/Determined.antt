@@ -5,19 +5,19 @@ use mathlib.Core.List.{List}
 use Prim.Native.Nat.{ℕ, _<_}
 use native.Mathlib.Decide.{ℕ-discrete}
 use lib.ListN.{length, getD}
-use Rattle.field.specs.Symbols.{symbols, symbolsOf}
-use Rattle.field.proofs.SymbolLaws.{symbols-field}
+use Rattle.field.specs.Symbols.{symbols}
+use Rattle.poly.specs.Buffers.{Places}
 use Rattle.poly.proofs.TableLaws.{first-determined}
-use Rattle.poly.proofs.Interpolation.{interpolate}
-use Rattle.poly.proofs.Interpolating.{places-distinct}
+use Rattle.poly.proofs.Interpolating.{places-only}
 use Rattle.poly.proofs.BufferLaws.{untouched-unique}
 use Rattle.curves.specs.Turns.{Outcome}
 use Rattle.curves.specs.Curves.{Curve}
 use Rattle.curves.proofs.Determined.{rule-determined}
 use Rattle.curves.proofs.Heights.{height-unique}
+use Rattle.curves.proofs.Leads.{lead-degree}
 use Rattle.curves.proofs.Least.{lightest-unique}
 use Rattle.rows.specs.Bytes.{shape, rowsBytes, curveBytes}
-use Rattle.rows.specs.Jobs.{startTable, HasStarted, shapeOf, atRow, turnTable, Goes, HasTurned, withNote, finishTable, Hands, HasFinished}
+use Rattle.rows.specs.Jobs.{startTable, HoldsStart, HasStarted, shapeOf, atRow, turnTable, Goes, HasTurned, withNote, finishTable, Hands, HasFinished}
 use Rattle.rows.specs.declared.Note.{Note}
 use Rattle.rows.specs.declared.Shape.{Shape}
 use Rattle.rows.specs.declared.Started.{Started}
@@ -31,6 +31,16 @@ use Rattle.rows.proofs.Accepted.{Accepted, start-accepted}
 pub started-same : {a b : Started} → a .number ≡ b .number → a .note ≡ b .note → a ≡ b
 started-same e d = ap₂ (λ (x : ℕ) (y : Note). record { number = x; note = y }) e d
 
+-- the bytes of the starting rows are fixed
+pub start-bytes : {p : ℕ} {points word : List ℕ} {k m l : ℕ} {xs ys : List ℕ} → Places p points word → HoldsStart p points word k m l xs
+    → HoldsStart p points word k m l ys
+    → (q : ℕ) → q < rowsBytes (shape p (length points) k m l) → getD xs q 0 ≡ getD ys q 0
+start-bytes {p} {points} {k = k} {m} {l} P f g q h =
+    let r = in-rows (shape p (length points) k m l) h in
+    rw (r .is)
+    (f .holds (r .row) (r .power) (r .degree) (r .inside) (r .low) (r .short)
+    ∙ sym (rw (places-only P (g .through) (f .through)) at (g .holds) (r .row) (r .power) (r .degree) (r .inside) (r .low) (r .short)))
+
 -- two outcomes of start for the same arguments are the same
 module _ {p : ℕ} {points word : List ℕ} {k m l : ℕ} {before : List ℕ} where
   pub start-determined : {after also : List ℕ} {back other : Started} → HasStarted p points word k m l before after back
@@ -43,12 +53,7 @@ module _ {p : ℕ} {points word : List ℕ} {k m l : ℕ} {before : List ℕ} wh
       byte : back .number ≡ 0 → (q : ℕ) → q < rowsBytes (shape p (length points) k m l) → getD after q 0 ≡ getD also q 0
       byte z q h =
           let a : Accepted p points word k m l before = start-accepted (f .first) z in
-          let P = a .places in
-          let t = interpolate (symbols-field p (P .size)) (length points) (symbolsOf p points) (symbolsOf p word) (places-distinct P) in
-          let r = in-rows (shape p (length points) k m l) h in
-          rw (r .is)
-          (f .rows z (t .0) (t .1) (r .row) (r .power) (r .degree) (r .inside) (r .low) (r .short)
-          ∙ sym (g .rows (sym same ∙ z) (t .0) (t .1) (r .row) (r .power) (r .degree) (r .inside) (r .low) (r .short)))
+          start-bytes (a .places) (f .rows z) (g .rows (sym same ∙ z)) q h
 
       go : Dec (back .number ≡ 0) → (back ≡ other) × (after ≡ also)
       go (yes z) = (
@@ -71,7 +76,7 @@ module _ {note : Note} {allowance : ℕ} {before after also : List ℕ} {a b : T
   outcome-same : f .outcome ≡ g .outcome
   outcome-same = rule-determined (f .turn) (g .turn)
 
-  goes-same : a ≡ b
+  pub goes-same : a ≡ b
   goes-same =
       let e = outcome-same in
       turned-same
@@ -79,7 +84,7 @@ module _ {note : Note} {allowance : ℕ} {before after also : List ℕ} {a b : T
       (f .next ∙ ap (λ (o : Outcome (symbols (note .p))). atRow note (o .row)) e ∙ sym (g .next))
       (f .updates ∙ ap (λ (o : Outcome (symbols (note .p))). o .updates) e ∙ sym (g .updates))
 
-  goes-bytes : {q : ℕ} → q < rowsBytes (shapeOf note) → getD after q 0 ≡ getD also q 0
+  pub goes-bytes : {q : ℕ} → q < rowsBytes (shapeOf note) → getD after q 0 ≡ getD also q 0
   goes-bytes {q} k =
       let p = in-rows (shapeOf note) k in
       rw (p .is) (f .rows (p .row) (p .power) (p .degree) (p .inside) (p .low) (p .short)
@@ -129,7 +134,9 @@ module _ {S : Shape} {rows : ℕ → Curve (symbols (S .p) .ring)} {curve also :
   hands-bytes {q} k =
       let c = in-curve S k in
       let e = hands-same in
-      rw (c .is) (a .bytes (c .power) (c .degree) (c .low) (c .short) ∙ rw (e .0, e .1) (sym (b .bytes (c .power) (c .degree) (c .low) (c .short))))
+      rw (c .is)
+      (rw (lead-degree (a .lightest .lead)) at (a .bytes (c .power) (c .degree) (c .low) (c .short))
+      ∙ rw (e .0, e .1) (sym (rw (lead-degree (b .lightest .lead)) at (b .bytes (c .power) (c .degree) (c .low) (c .short)))))
 
 -- and what it hands back is the same where its fields are
 pub finished-same : {a b : Finished} → a .number ≡ b .number → a .weight ≡ b .weight → a .height ≡ b .height → a ≡ b

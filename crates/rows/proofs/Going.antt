@@ -15,14 +15,14 @@ use Rattle.poly.specs.Lent.{Untouched}
 use Rattle.poly.proofs.TableLaws.{first-passed}
 use Rattle.poly.proofs.BufferLaws.{untouched-then}
 use Rattle.curves.specs.Curves.{Curve, Zero, Lead}
-use Rattle.curves.specs.Turns.{Outcome, stops, counted, Turn, finished, rises, pauses, updates, halts, update}
+use Rattle.curves.specs.Turns.{Outcome, stops, counted, Turn, finished, rises, pauses, updates, halts}
 use Rattle.curves.specs.Entry.{Sound}
 use Rattle.curves.proofs.Leads.{lead-unique, lead-within}
 use Rattle.curves.proofs.Entry.{sound-rises, sound-below, sound-update}
 use Rattle.curves.proofs.FlatRows.{update-flat}
 use Rattle.rows.specs.Bytes.{rowsBytes, rowsOf, Holds}
 use Rattle.rows.specs.Jobs.{shapeOf, atRow, turnTable}
-use Rattle.rows.specs.Work.{Bytes, FoundLead, Crosses, Ready, Went}
+use Rattle.rows.specs.Work.{Bytes, FoundLead, Crosses, updatedRows, Ready, Went}
 use Rattle.rows.specs.declared.Note.{Note}
 use Rattle.rows.specs.declared.Shape.{Shape}
 use Rattle.rows.specs.declared.Turned.{Turned}
@@ -32,7 +32,7 @@ use Rattle.rows.proofs.sound.Soundness.{bytes-below, as-left-stable}
 use Rattle.rows.proofs.Placing.{holds-bytes, holds-own, light-row}
 use Rattle.rows.proofs.HeldRows.{rowsOf-flat, holds-flat}
 use Rattle.rows.proofs.leading.Finding.{found-lead}
-use Rattle.rows.proofs.update.CrossedRows.{due}
+use Rattle.rows.proofs.update.CrossedRows.{due, rule-update}
 
 -- n updates made before
 abbrev pub more : {F : Field} → ℕ → Outcome F → Outcome F
@@ -122,7 +122,7 @@ module _ {S : Shape} {start allowance : ℕ} {before xs : List ℕ} {r left : �
 module _ {S : Shape} {start allowance : ℕ} {before xs : List ℕ} {r left w s v : ℕ} (g : Going S start allowance before xs r left)
     (x : Crosses S xs r w s v) where
   abbrev new : ℕ → Curve (symbols (S .p) .ring)
-  new = update (symbols (S .p)) (S .u) r w s v (rowsOf S xs)
+  new = updatedRows S xs r w s v
 
   pub going-updates : (ys : List ℕ) → 0 < left → (Zero (symbols (S .p) .ring) (new r) → ⊥) → Holds S ys new → Untouched (rowsBytes S) xs ys
       → Going S start allowance before ys r (left - 1)
@@ -140,10 +140,12 @@ module _ {S : Shape} {start allowance : ℕ} {before xs : List ℕ} {r left w s 
       }
     where
       sound : Sound (symbols (S .p) .ring) (S .u) (S .width) (S .l) r new
-      sound = sound-update (Φ g) (g .sound) (due x) n
+      sound = rw (rule-update x) at (sound-update (Φ g) (g .sound) (due x) (rw (← rule-update x) at n))
 
       is : rowsOf S ys ≡ new
-      is = holds-flat S ys new holds (update-flat (Φ g) (due x) (sound-below (g .sound) (due x)) (rowsOf-flat S xs)) (sound .light)
+      is =
+          holds-flat S ys new holds (rw (rule-update x) at (update-flat (Φ g) (due x) (sound-below (g .sound) (due x)) (rowsOf-flat S xs)))
+          (sound .light)
 
       back : (o : Outcome (symbols (S .p))) → Turn (symbols (S .p)) (S .u) (S .l) (left - 1) (rowsOf S ys) r o
           → Turn (symbols (S .p)) (S .u) (S .l) allowance (rowsOf S before) start (more (allowance - (left - 1)) o)
@@ -151,7 +153,7 @@ module _ {S : Shape} {start allowance : ℕ} {before xs : List ℕ} {r left w s 
           let k = g .within in
           let a : left ≡ suc (left - 1) = omega arith in
           let m : allowance - (left - 1) + o .updates ≡ allowance - left + suc (o .updates) = omega arith in
-          rw m (g .back (counted (symbols (S .p)) o) (rw a (updates {r = r} w s v (due x) n (rw is at t))))
+          rw m (g .back (counted (symbols (S .p)) o) (rw a (updates {r = r} w s v (due x) (rw (← rule-update x) at n) (rw (is, ← rule-update x) at t))))
 
 -- the three ends
 module _ {S : Shape} {note : Note} {allowance : ℕ} {before xs : List ℕ} {r left : ℕ} (is : S ≡ shapeOf note)
@@ -185,7 +187,7 @@ module _ {S : Shape} {note : Note} {allowance : ℕ} {before xs : List ℕ} {r l
   ends-paused h {w} {s} lead n z e = ends 0 e (rw z (pauses {r = r} w s h lead n))
 
   pub ends-halted : {w s v : ℕ} (x : Crosses S xs r w s v) → 0 < left
-      → Zero (symbols (S .p) .ring) (update (symbols (S .p)) (S .u) r w s v (rowsOf S xs) r) → back .number ≡ 11 → Went note allowance before xs back
+      → Zero (symbols (S .p) .ring) (updatedRows S xs r w s v r) → back .number ≡ 11 → Went note allowance before xs back
   ends-halted {w} {s} {v} x h z e =
       let a : left ≡ suc (left - 1) = omega arith in
-      ends 11 e (rw a (halts {r = r} w s v (due x) z))
+      ends 11 e (rw a (halts {r = r} w s v (due x) (rw (← rule-update x) at z)))

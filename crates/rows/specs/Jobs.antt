@@ -7,7 +7,7 @@
 --   atRow note r           the note with r as its current row; noNote  all zeros
 --   requestTable           the refusals 1 to 7 of a request, with which start and list begin
 --   startTable, turnTable, finishTable   the refusals of each job, in order
---   HasStarted             what start hands back and leaves in the lent rows
+--   HoldsStart             the bytes are the rows that a start fills; HasStarted  what start hands back and leaves in the lent rows
 --   Goes                   an accepted turn goes by the rule and hands over what the rule leaves; HasTurned  the same with refusals
 --   withNote made note     what a turn in place hands back, with the note that it leaves
 --   Hands                  finish hands over the lightest row, made monic, with its weight and height; HasFinished  the same with refusals
@@ -77,11 +77,16 @@ startTable p points word k m l rows =
     record { number = 9; applies = TooShort (rowsBytes (shape p (length points) k m l)) rows } ∷
     []
 
+pub record HoldsStart (p : ℕ) (points word : List ℕ) (k m l : ℕ) (rows : List ℕ) : Type 0 where
+  pub h : Seq (symbols p .ring)
+  pub through : Through (symbols p .ring) (length points) (symbolsOf p points) (symbolsOf p word) h
+  pub holds : Holds (shape p (length points) k m l) rows
+      (startRow (symbols p .ring) m (locator (symbols p .ring) (length points) (symbolsOf p points)) h)
+
 pub record HasStarted (p : ℕ) (points word : List ℕ) (k m l : ℕ) (before after : List ℕ) (back : Started) : Type 0 where
   pub first : First (startTable p points word k m l before) (back .number)
   pub note : back .number ≡ 0 → back .note ≡ record { p = p; n = length points; k = k; m = m; l = l; r = 1 }
-  pub rows : back .number ≡ 0 → (h : Seq (symbols p .ring)) → Through (symbols p .ring) (length points) (symbolsOf p points) (symbolsOf p word) h
-      → Holds (shape p (length points) k m l) after (startRow (symbols p .ring) m (locator (symbols p .ring) (length points) (symbolsOf p points)) h)
+  pub rows : back .number ≡ 0 → HoldsStart p points word k m l after
   pub rest : Untouched (rowsBytes (shape p (length points) k m l)) before after
   pub refused : (back .number ≡ 0 → ⊥) → (back .note ≡ noNote) × (after ≡ before)
 
@@ -125,7 +130,7 @@ finishTable note rows curve =
 pub record Hands (S : Shape) (rows : ℕ → Curve (symbols (S .p) .ring)) (curve : List ℕ) (weight height : ℕ) : Type 0 where
   pub row : ℕ
   pub lightest : Lightest (symbols (S .p) .ring) (S .u) (S .l) rows row weight
-  pub bytes : HoldsCurve S curve (monic (symbols (S .p)) (S .u) weight row (rows row))
+  pub bytes : HoldsCurve S curve (monic (symbols (S .p)) row (lightest .lead .degree) (rows row))
   pub tall : HasHeight (symbols (S .p) .ring) (rows row) height
 
 pub record HasFinished (note : Note) (rows before after : List ℕ) (back : Finished) : Type 0 where

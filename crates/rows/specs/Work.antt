@@ -8,6 +8,7 @@
 --   ZeroBetween xs a b  the bytes from a up to, not including, b are zero
 --   SoundRow            what Sound says of row i
 --   Crosses             rows r and s lead at the same power s of y, at weights w and v
+--   leadsRatio          the leading coefficient of row r over that of row s; updatedRows  the rows after the update
 --   delayedByte         a coefficient of x^d times a slot; Slots, SlotVanishes  what the test of one slot for zero asks and says
 --   Exchanges, Exchanged   what changing two runs of bytes asks and leaves
 --   Ready note xs       the note and the rows of an accepted turn; Went  what it leaves
@@ -24,12 +25,13 @@ use lib.ListN.{length, getD}
 use lib.Seq.{sets}
 use Rattle.field.specs.Field.{Ring}
 use Rattle.field.specs.Lists.{tabulate}
-use Rattle.field.specs.Symbols.{symbols}
+use Rattle.field.specs.Symbols.{Element, symbols}
 use Rattle.field.specs.Operations.{minusBytes, timesBytes, Listed}
 use Rattle.field.specs.Kernels.{Region}
 use Rattle.poly.specs.Limits.{fieldMost, widthMost, heightMost}
 use Rattle.poly.specs.Lent.{Untouched}
 use Rattle.curves.specs.Curves.{Curve, Height, Zero, Under, Lead, LeadsAt}
+use Rattle.curves.specs.Turns.{ratio, update}
 use Rattle.curves.specs.Entry.{Sound}
 use Rattle.rows.specs.Bytes.{slot, rowsBytes, curveBytes, within, rowsOf, place}
 use Rattle.rows.specs.Jobs.{BadNote, shapeOf, Goes}
@@ -97,6 +99,13 @@ pub record Crosses (S : Shape) (xs : List ℕ) (r w s v : ℕ) : Type 0 where
   pub light-s : LightRow S xs s
   pub lead-r : Lead (symbols (S .p) .ring) (S .u) w s (rowsOf S xs r)
   pub lead-s : Lead (symbols (S .p) .ring) (S .u) v s (rowsOf S xs s)
+
+-- both by the weights: at y^s a term of weight w has x^(w - u s)
+abbrev pub leadsRatio : (S : Shape) → List ℕ → (r w s v : ℕ) → Element (S .p)
+leadsRatio S xs r w s v = ratio (symbols (S .p)) s (w - S .u * s) (v - S .u * s) (rowsOf S xs r) (rowsOf S xs s)
+
+abbrev pub updatedRows : (S : Shape) → List ℕ → (r w s v : ℕ) → ℕ → Curve (symbols (S .p) .ring)
+updatedRows S xs r w s v = update (symbols (S .p)) r s (w - S .u * s) (v - S .u * s) (rowsOf S xs)
 
 -- the coefficient of x^e in x^d times the x-polynomial at `at`
 abbrev pub delayedByte : List ℕ → ℕ → ℕ → ℕ → ℕ

@@ -6,17 +6,15 @@ ghost use Rattle.field.specs.Symbols.{symbols};
 ghost use Rattle.poly.specs.Buffers.{Decided};
 ghost use Rattle.poly.specs.Lent.{Untouched};
 ghost use Rattle.curves.specs.Curves.{Zero};
-ghost use Rattle.curves.specs.Turns.{ratio as ratioOf, update as updateOf};
-ghost use Rattle.rows.specs.Bytes.{rowsOf, Holds, rowsBytes};
-ghost use Rattle.rows.specs.Work.{Crosses, delayedByte, Slots, SlotVanishes, Exchanges, Exchanged};
+ghost use Rattle.rows.specs.Bytes.{Holds, rowsBytes};
+ghost use Rattle.rows.specs.Work.{Crosses, leadsRatio, updatedRows, delayedByte, Slots, SlotVanishes, Exchanges, Exchanged};
 use crate::Shape;
 use field::Symbol;
 
 // The leading coefficient of row r over that of row s.
 fn ratio(rows: &[u8], shape: Shape, r: usize, w: usize, s: usize, v: usize) -> Symbol
     requires { ⌜ Crosses shape (now rows) r w s v ⌝ }
-    ensures { λ c. ⌜ c .value ≡ ratioOf (symbols (shape .p)) (shape .u) s w v (rowsOf shape (now (rows .entry)) r)
-        (rowsOf shape (now (rows .entry)) s) .byte ⌝ }
+    ensures { λ c. ⌜ c .value ≡ leadsRatio shape (now (rows .entry)) r w s v .byte ⌝ }
 {
     let p = shape.p;
     let lift = shape.u * s;
@@ -79,8 +77,7 @@ fn beyond(a: usize, b: usize) -> usize
 // Whether the update would make row r zero.
 pub fn vanishes(rows: &[u8], shape: Shape, r: usize, w: usize, s: usize, v: usize) -> bool
     requires { ⌜ Crosses shape (now rows) r w s v ⌝ }
-    ensures { λ b. ⌜ Decided b
-        (Zero (symbols (shape .p) .ring) (updateOf (symbols (shape .p)) (shape .u) r w s v (rowsOf shape (now (rows .entry))) r)) ⌝ }
+    ensures { λ b. ⌜ Decided b (Zero (symbols (shape .p) .ring) (updatedRows shape (now (rows .entry)) r w s v r)) ⌝ }
 {
     let c = ratio(rows, shape, r, w, s, v);
     let up = beyond(v, w);
@@ -116,7 +113,7 @@ fn swap(rows: &mut [u8], a: usize, b: usize, len: usize)
 // in one run over its bytes.
 pub fn update(rows: &mut [u8], shape: Shape, r: usize, w: usize, s: usize, v: usize)
     requires { ⌜ Crosses shape (now rows) r w s v ⌝ }
-    ensures { λ _. ⌜ Holds shape (now (rows .exit)) (updateOf (symbols (shape .p)) (shape .u) r w s v (rowsOf shape (now (rows .entry))))
+    ensures { λ _. ⌜ Holds shape (now (rows .exit)) (updatedRows shape (now (rows .entry)) r w s v)
         × Untouched (rowsBytes shape) (now (rows .entry)) (now (rows .exit)) ⌝ }
 {
     let p = shape.p;

@@ -6,6 +6,7 @@ use lib.ListN.{length}
 use borrow.Author.Needs.{needs}
 use Rattle.poly.specs.Lent.{Untouched}
 use Rattle.curves.proofs.Leads.{lead-light}
+use Rattle.curves.proofs.Leads.{lead-degree}
 use Rattle.rows.specs.Bytes.{curveBytes, rowsOf}
 use Rattle.rows.specs.Jobs.{Hands}
 use Rattle.rows.specs.Work.{Whole}
@@ -89,7 +90,12 @@ returns-2 c =
       curve = λ e.
           subst (λ (S : Shape). Hands S (rowsOf S (t .args .rows .now)) (d .hand-over .last .1 .1 .1 .1 .0) (f .find .result .weight)
           (c .height .result)) (o .of .ensures)
-          (record { row = f .find .result .row; lightest = f .find .ensures; bytes = u .0; tall = c .height .ensures });
+          (record {
+            row = f .find .result .row;
+            lightest = f .find .ensures;
+            bytes = rw (lead-degree (f .find .ensures .lead)) (u .0);
+            tall = c .height .ensures;
+          });
       rest = subst (λ (S : Shape). Untouched (curveBytes S) (t .args .curve .now) (d .hand-over .last .1 .1 .1 .1 .0)) (o .of .ensures) (u .1);
       refused = λ n. absurd (n refl);
     }

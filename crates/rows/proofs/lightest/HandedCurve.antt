@@ -86,7 +86,7 @@ module _ {S : Shape} {xs : List ℕ} {row weight : ℕ} {curve : List ℕ} (h : 
   abbrev monicBytes : List ℕ
   monicBytes = scaled (S .p) (invByte (S .p) lead) 0 (curveBytes S) copy
 
-  monic-bytes : HoldsCurve S monicBytes (monic (symbols (S .p)) (S .u) weight row (rowsOf S xs row))
+  monic-bytes : HoldsCurve S monicBytes (monic (symbols (S .p)) row (weight - S .u * row) (rowsOf S xs row))
   unfolding timesBytes
   monic-bytes j e g k =
       let q = slot-inside S g k in
@@ -94,7 +94,7 @@ module _ {S : Shape} {xs : List ℕ} {row weight : ℕ} {curve : List ℕ} (h : 
       rw (zero-add (j * slot S + e)) at
       (scaled-inside (S .p) (invByte (S .p) lead) 0 copy (curveBytes S) (j * slot S + e) (omega (arith, copy-length, h .room)) q)
       ∙ rw (copy-at q, a, timesBytes, symbol-invByte, ← rowsOf-at S xs (h .inside) (h .inside) lead-short, ← rowsOf-at S xs (h .inside) g k)
-      (ap (λ (x : Element (S .p)). x .byte) (sym (monic-at (symbols-field (S .p) (h .bytes .fine .size)) (S .u) weight row (rowsOf S xs row) j e)))
+      (ap (λ (x : Element (S .p)). x .byte) (sym (monic-at (symbols-field (S .p) (h .bytes .fine .size)) row (weight - S .u * row) (rowsOf S xs row) j e)))
 
   monic-rest : Untouched (curveBytes S) curve monicBytes
   monic-rest =
@@ -111,7 +111,7 @@ module _ {S : Shape} {xs : List ℕ} {row weight : ℕ} {curve : List ℕ} (h : 
 
     pub handed : {at c : ℕ} {zs : List ℕ} → at ≡ place S row row (weight - S .u * row) → c ≡ invByte (S .p) (getD xs at 0)
         → zs ≡ scaled (S .p) c 0 len ys
-        → HoldsCurve S zs (monic (symbols (S .p)) (S .u) weight row (rowsOf S xs row)) × Untouched (curveBytes S) curve zs
+        → HoldsCurve S zs (monic (symbols (S .p)) row (weight - S .u * row) (rowsOf S xs row)) × Untouched (curveBytes S) curve zs
     handed ae ce ze = rw (ze, ce, ae, ye, le) (monic-bytes, monic-rest)
 
 -- the slot of a row's last nonzero byte

@@ -67,7 +67,7 @@ returns-2 c =
     record {
       first = rw (e .if1 .left) at (e .before .refuse-start .ensures);
       note = λ z. refl;
-      rows = λ z h through. accepted-rows a (i .interpolate .ensures) through (f .fill .last .0) (filled .0);
+      rows = λ z. accepted-rows a (i .interpolate .ensures) (f .fill .last .0) (filled .0);
       rest = filled .1;
       refused = λ n. absurd (n refl);
     }

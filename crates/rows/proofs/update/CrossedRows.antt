@@ -1,19 +1,22 @@
--- Two rows that an update crosses: their weights are within the width, and the ratio of their leading coefficients, as bytes.
-use mathlib.Core.Path.{_≡_}
+-- Two rows that an update crosses: what the update makes of them, that their weights are within the width, and the ratio of their leading
+-- coefficients, as bytes.
+use mathlib.Core.Path.{_≡_, ap, ap₂, _∙_}
+use mathlib.Core.Logic.{_≢_}
 use mathlib.Core.List.{List}
-use Prim.Native.Nat.{ℕ, _-_, _*_, _≤_, _<_}
+use Prim.Native.Nat.{ℕ, _-_, _*_, _≤_, _<_, max}
 use native.Mathlib.Omega.{arith}
 use lib.ListN.{getD}
-use Rattle.field.specs.Field.{Ring, Field}
+use Rattle.field.specs.Field.{Ring, Field, FieldLaws}
 use Rattle.field.specs.Symbols.{Element, symbols}
 use Rattle.field.specs.Operations.{timesBytes, invByte}
 use Rattle.field.proofs.OperationLaws.{symbol-invByte}
-use Rattle.field.proofs.SymbolLaws.{byte-below}
-use Rattle.curves.specs.Curves.{Curve}
-use Rattle.curves.specs.Turns.{Due, ratio}
-use Rattle.curves.proofs.Leads.{lead-light}
+use Rattle.field.proofs.SymbolLaws.{symbols-field, byte-below}
+use Rattle.curves.specs.Curves.{Curve, Under}
+use Rattle.curves.specs.Turns.{cross, Due, ratio, update, updated}
+use Rattle.curves.proofs.Leads.{lead-degree, lead-light}
+use Rattle.curves.proofs.Updates.{Swapped, update-r, update-s, update-other, update-under}
 use Rattle.rows.specs.Bytes.{place, rowsOf}
-use Rattle.rows.specs.Work.{Placed, Crosses}
+use Rattle.rows.specs.Work.{Placed, Crosses, leadsRatio, updatedRows}
 use Rattle.rows.specs.declared.Shape.{Shape}
 use Rattle.rows.proofs.Placing.{rowsOf-at, light-curve}
 
@@ -28,10 +31,35 @@ module _ {S : Shape} {xs : List ℕ} {r w s v : ℕ} (x : Crosses S xs r w s v) 
   rows = rowsOf S xs
 
   abbrev c : Element (S .p)
-  c = ratio F (S .u) s w v (rows r) (rows s)
+  c = leadsRatio S xs r w s v
 
-  pub due : Due R (S .u) (S .l) r rows w s v
+  abbrev new : ℕ → Curve R
+  new = updatedRows S xs r w s v
+
+  Φ : FieldLaws (symbols (S .p))
+  Φ = symbols-field (S .p) (x .bytes .fine .size)
+
+  abbrev pub due : Due R (S .u) (S .l) r rows w s v
   due = record { inside = x .current; lead = x .lead-r; other = x .apart; below = x .lead-s }
+
+  -- the update that is due, by the weights
+  pub rule-update : updated F due ≡ new
+  rule-update = ap₂ (λ a b. update F r s a b rows) (lead-degree (x .lead-r)) (lead-degree (x .lead-s))
+
+  pub crossed-r : new r ≡ cross R (v - w) (rows r) c (w - v) (rows s)
+  crossed-r =
+      rw rule-update at (update-r Φ due)
+      ∙ ap (λ (c : Element (S .p)). cross R (v - w) (rows r) c (w - v) (rows s))
+      (ap₂ (λ a b. ratio F s a b (rows r) (rows s)) (lead-degree (x .lead-r)) (lead-degree (x .lead-s)))
+
+  pub crossed-s : Swapped R w v (rows r) (rows s) (new s)
+  crossed-s = rw rule-update at (update-s Φ due)
+
+  pub crossed-other : (i : ℕ) → i ≢ r → i ≢ s → new i ≡ rows i
+  crossed-other = rw rule-update at (update-other Φ due)
+
+  pub crossed-under : Under R (S .u) (max w v) s (new r)
+  crossed-under = rw rule-update at (update-under Φ due)
 
   pub crosses-w : w ≤ S .width
   crosses-w = lead-light (x .lead-r) (S .width) (light-curve S xs (x .current) (x .light-r))

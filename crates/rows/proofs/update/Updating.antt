@@ -18,15 +18,15 @@ use Rattle.poly.specs.Lent.{Untouched}
 use Rattle.poly.proofs.Series.{readings}
 use Rattle.poly.proofs.Monomials.{delay, delay-zero}
 use Rattle.curves.specs.Curves.{Curve, Lead}
-use Rattle.curves.specs.Turns.{cross, ratio, update}
+use Rattle.curves.specs.Turns.{cross}
 use Rattle.curves.proofs.Crossing.{cross-at}
-use Rattle.curves.proofs.Updates.{Swapped, update-r, update-s, update-other}
+use Rattle.curves.proofs.Updates.{Swapped}
 use Rattle.rows.specs.Bytes.{slot, curveBytes, rowsBytes, place, within, rowsOf, Holds}
-use Rattle.rows.specs.Work.{Crosses, Exchanges, Exchanged}
+use Rattle.rows.specs.Work.{Crosses, leadsRatio, updatedRows, Exchanges, Exchanged}
 use Rattle.rows.specs.declared.Shape.{Shape}
 use Rattle.rows.proofs.Placing.{block-end, row-end, slot-inside, place-apart, place-below, rowsOf-at, holds-own}
 use Rattle.rows.proofs.update.Moving.{Stands, Light, subtracted-curve, subtracted-elsewhere}
-use Rattle.rows.proofs.update.CrossedRows.{due, crosses-w, crosses-v}
+use Rattle.rows.proofs.update.CrossedRows.{crossed-r, crossed-s, crossed-other, crosses-w, crosses-v}
 
 -- - c q - (-1) d
 turned : {R : Ring} (L : RingLaws R) (c q d : R .Car)
@@ -44,7 +44,7 @@ module _ {S : Shape} {xs : List ℕ} {r w s v : ℕ} (x : Crosses S xs r w s v) 
   rows = rowsOf S xs
 
   abbrev c : Element (S .p)
-  c = ratio F (S .u) s w v (rows r) (rows s)
+  c = leadsRatio S xs r w s v
 
   Φ : FieldLaws (symbols (S .p))
   Φ = symbols-field (S .p) (x .bytes .fine .size)
@@ -55,16 +55,16 @@ module _ {S : Shape} {xs : List ℕ} {r w s v : ℕ} (x : Crosses S xs r w s v) 
       (stays : v ≤ w → (j e : ℕ) → j ≤ S .l → e ≤ S .width → getD ys (place S s j e) 0 ≡ getD xs (place S s j e) 0)
       (turns : w < v → (j e : ℕ) → j ≤ S .l → e ≤ S .width → getD ys (place S s j e) 0 ≡ getD xs (place S r j e) 0)
       (others : (i j e : ℕ) → i ≢ r → i ≢ s → j ≤ S .l → e ≤ S .width → getD ys (place S i j e) 0 ≡ getD xs (place S i j e) 0) where
-    update-holds : Holds S ys (update F (S .u) r w s v rows)
-    update-holds i j e g h k = go (ℕ-discrete i r) (ℕ-discrete i s) (update-s Φ (due x))
+    update-holds : Holds S ys (updatedRows S xs r w s v)
+    update-holds i j e g h k = go (ℕ-discrete i r) (ℕ-discrete i s) (crossed-s x)
       where
         own : (i : ℕ) → i ≤ S .l → getD xs (place S i j e) 0 ≡ rows i j e .byte
         own i g = holds-own (x .bytes) i j e g h k
 
-        go : Dec (i ≡ r) → Dec (i ≡ s) → Swapped R w v (rows r) (rows s) (update F (S .u) r w s v rows s)
-            → getD ys (place S i j e) 0 ≡ update F (S .u) r w s v rows i j e .byte
-        go (yes q) b d = rw (q, update-r Φ (due x)) (new j e h k)
-        go (no a) (no b) d = rw (update-other Φ (due x) i a b) (others i j e a b h k ∙ own i g)
+        go : Dec (i ≡ r) → Dec (i ≡ s) → Swapped R w v (rows r) (rows s) (updatedRows S xs r w s v s)
+            → getD ys (place S i j e) 0 ≡ updatedRows S xs r w s v i j e .byte
+        go (yes q) b d = rw (q, crossed-r x) (new j e h k)
+        go (no a) (no b) d = rw (crossed-other x i a b) (others i j e a b h k ∙ own i g)
         go (no a) (yes q) (inl (l, d)) = rw (q, d) (stays l j e h k ∙ own s (x .other))
         go (no a) (yes q) (inr (l, d)) = rw (q, d) (turns l j e h k ∙ own r (x .current))
 
@@ -87,7 +87,7 @@ module _ {S : Shape} {xs : List ℕ} {r w s v : ℕ} (x : Crosses S xs r w s v) 
     abbrev once : List ℕ
     once = subtracted (S .p) (c .byte) (r * curveBytes S + (w - v)) (s * curveBytes S) (curveBytes S - (w - v)) xs
 
-    pub subtract-holds : Holds S once (update F (S .u) r w s v rows)
+    pub subtract-holds : Holds S once (updatedRows S xs r w s v)
     subtract-holds =
         update-holds once new
         (λ _ j e g k. outside s j e (x .apart) g k)
@@ -143,7 +143,7 @@ module _ {S : Shape} {xs : List ℕ} {r w s v : ℕ} (x : Crosses S xs r w s v) 
     long : length zs ≡ length xs
     long = length-scaled (S .p) (negByte (S .p) (c .byte)) (r * curveBytes S) ys (curveBytes S) ∙ swapped .long
 
-    pub exchange-holds : Holds S twice (update F (S .u) r w s v rows)
+    pub exchange-holds : Holds S twice (updatedRows S xs r w s v)
     exchange-holds =
         update-holds twice new
         (λ l. absurd (omega arith))
@@ -265,9 +265,9 @@ module _ {S : Shape} {xs : List ℕ} {r w s v : ℕ} (x : Crosses S xs r w s v) 
         h
 
     pub exchange-leaves : w < v → {ws : List ℕ} (f k n : ℕ) {zs : List ℕ}
-        → f ≡ ratio (symbols (S .p)) (S .u) s w v (rowsOf S xs r) (rowsOf S xs s) .byte → k ≡ negByte (S .p) f → n ≡ negByte (S .p) 1
+        → f ≡ leadsRatio S xs r w s v .byte → k ≡ negByte (S .p) f → n ≡ negByte (S .p) 1
         → zs ≡ scaled (S .p) k (r * len) len ys → ws ≡ subtracted (S .p) n (r * len + (v - w)) (s * len) (len - (v - w)) zs
-        → Holds S ws (update (symbols (S .p)) (S .u) r w s v (rowsOf S xs)) × Untouched (rowsBytes S) xs ws
+        → Holds S ws (updatedRows S xs r w s v) × Untouched (rowsBytes S) xs ws
     exchange-leaves h {ws} f k n fs ks ns zs-is ws-is = (
       rw es (exchange-holds x h ys swapped),
       record {
@@ -285,13 +285,13 @@ module _ {S : Shape} {xs : List ℕ} {r w s v : ℕ} (x : Crosses S xs r w s v) 
         swapped = rw is at e
 
         es : ws ≡ subtracted (S .p) (negByte (S .p) 1) (r * curveBytes S + (v - w)) (s * curveBytes S) (curveBytes S - (v - w))
-            (scaled (S .p) (negByte (S .p) (ratio (symbols (S .p)) (S .u) s w v (rowsOf S xs r) (rowsOf S xs s) .byte)) (r * curveBytes S)
+            (scaled (S .p) (negByte (S .p) (leadsRatio S xs r w s v .byte)) (r * curveBytes S)
             (curveBytes S) ys)
         es = rw (zs-is, ns, ks, fs, is) at ws-is
 
-  pub subtract-leaves : v ≤ w → {ys : List ℕ} (k : ℕ) → k ≡ ratio (symbols (S .p)) (S .u) s w v (rowsOf S xs r) (rowsOf S xs s) .byte
+  pub subtract-leaves : v ≤ w → {ys : List ℕ} (k : ℕ) → k ≡ leadsRatio S xs r w s v .byte
       → ys ≡ subtracted (S .p) k (r * len + (w - v)) (s * len) (len - (w - v)) xs
-      → Holds S ys (update (symbols (S .p)) (S .u) r w s v (rowsOf S xs)) × Untouched (rowsBytes S) xs ys
+      → Holds S ys (updatedRows S xs r w s v) × Untouched (rowsBytes S) xs ys
   subtract-leaves h {ys} k ks ys-is = (
     rw es (subtract-holds x h),
     record {
@@ -300,6 +300,6 @@ module _ {S : Shape} {xs : List ℕ} {r w s v : ℕ} (x : Crosses S xs r w s v) 
     },
   )
     where
-      es : ys ≡ subtracted (S .p) (ratio (symbols (S .p)) (S .u) s w v (rowsOf S xs r) (rowsOf S xs s) .byte) (r * curveBytes S + (w - v))
+      es : ys ≡ subtracted (S .p) (leadsRatio S xs r w s v .byte) (r * curveBytes S + (w - v))
           (s * curveBytes S) (curveBytes S - (w - v)) xs
       es = rw (is, ks) at ys-is

@@ -18,14 +18,13 @@ use Rattle.field.proofs.SymbolLaws.{symbols-field, symbol-byte, zero-byte}
 use Rattle.poly.specs.Buffers.{Decided}
 use Rattle.poly.proofs.Monomials.{delay, delay-at, delay-null}
 use Rattle.curves.specs.Curves.{Curve, Zero}
-use Rattle.curves.specs.Turns.{cross, ratio, update}
+use Rattle.curves.specs.Turns.{cross}
 use Rattle.curves.proofs.Crossing.{cross-at, cross-null}
-use Rattle.curves.proofs.Updates.{update-r, update-under}
 use Rattle.rows.specs.Bytes.{slot, curveBytes, within, rowsOf}
-use Rattle.rows.specs.Work.{Bytes, Crosses, delayedByte, SlotVanishes}
+use Rattle.rows.specs.Work.{Bytes, Crosses, leadsRatio, updatedRows, delayedByte, SlotVanishes}
 use Rattle.rows.specs.declared.Shape.{Shape}
 use Rattle.rows.proofs.Placing.{slot-end, row-end, rowsOf-at, rowsOf-boxed}
-use Rattle.rows.proofs.update.CrossedRows.{due, crosses-w, crosses-v}
+use Rattle.rows.proofs.update.CrossedRows.{crossed-r, crossed-under, crosses-w, crosses-v}
 
 -- a slot's bytes are below p
 pub slot-region : {S : Shape} {xs : List ℕ} {i j : ℕ} → Bytes S xs → i ≤ S .l → j ≤ S .l → Region (S .p) (i * curveBytes S + j * slot S) (slot S) xs
@@ -53,7 +52,7 @@ module _ {S : Shape} {xs : List ℕ} {r w s v : ℕ} (x : Crosses S xs r w s v) 
   rows = rowsOf S xs
 
   abbrev c : Element (S .p)
-  c = ratio F (S .u) s w v (rows r) (rows s)
+  c = leadsRatio S xs r w s v
 
   Φ : FieldLaws (symbols (S .p))
   Φ = symbols-field (S .p) (x .bytes .fine .size)
@@ -100,15 +99,15 @@ module _ {S : Shape} {xs : List ℕ} {r w s v : ℕ} (x : Crosses S xs r w s v) 
   pub slot-zero : {j : ℕ} → j ≤ S .l → Vanishing j → (e : ℕ) → e ≤ S .width → crossed j e ≡ symbol (S .p) 0
   slot-zero {j} h z e k = same-byte (S .p) (sym (cross-byte h k) ∙ z e k ∙ sym (zero-byte (S .p)))
 
-  pub zero-slot : {j : ℕ} → j ≤ S .l → Zero R (update F (S .u) r w s v rows r) → Vanishing j
-  zero-slot {j} h z e k = cross-byte h k ∙ rw (← update-r Φ (due x), z j e) (zero-byte (S .p))
+  pub zero-slot : {j : ℕ} → j ≤ S .l → Zero R (updatedRows S xs r w s v r) → Vanishing j
+  zero-slot {j} h z e k = cross-byte h k ∙ rw (← crossed-r x, z j e) (zero-byte (S .p))
 
-  pub row-zero : ((j : ℕ) → j ≤ S .l → (e : ℕ) → e ≤ S .width → crossed j e ≡ symbol (S .p) 0) → Zero R (update F (S .u) r w s v rows r)
+  pub row-zero : ((j : ℕ) → j ≤ S .l → (e : ℕ) → e ≤ S .width → crossed j e ≡ symbol (S .p) 0) → Zero R (updatedRows S xs r w s v r)
   row-zero z j e = go (decLe j (S .l)) (decLe e (S .width))
     where
-      go : Dec (j ≤ S .l) → Dec (e ≤ S .width) → update F (S .u) r w s v rows r j e ≡ symbol (S .p) 0
-      go (yes h) (yes k) = rw (update-r Φ (due x)) (z j h e k)
+      go : Dec (j ≤ S .l) → Dec (e ≤ S .width) → updatedRows S xs r w s v r j e ≡ symbol (S .p) 0
+      go (yes h) (yes k) = rw (crossed-r x) (z j h e k)
       go (no h) k =
-          rw (update-r Φ (due x)) (cross-null (Φ .ring) (v - w) (rows r) c (w - v) (rows s) j e
+          rw (crossed-r x) (cross-null (Φ .ring) (v - w) (rows r) c (w - v) (rows s) j e
           (λ i y. rowsOf-boxed S xs r j i (inr (inl (omega arith)))) (λ i y. rowsOf-boxed S xs s j i (inr (inl (omega arith)))))
-      go (yes h) (no k) = let a = crosses-w x in let b = crosses-v x in update-under Φ (due x) j e (omega arith) (λ y. absurd (omega arith))
+      go (yes h) (no k) = let a = crosses-w x in let b = crosses-v x in crossed-under x j e (omega arith) (λ y. absurd (omega arith))

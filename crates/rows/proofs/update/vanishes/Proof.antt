@@ -9,8 +9,9 @@ use Rattle.field.specs.Symbols.{symbol, symbols}
 use Rattle.poly.specs.Limits.{rowsMost}
 use Rattle.poly.specs.Buffers.{Decided}
 use Rattle.poly.proofs.TableLaws.{decided-true, decided-false}
-use Rattle.curves.specs.Turns.{ratio as ratioOf, cross}
+use Rattle.curves.specs.Turns.{cross}
 use Rattle.rows.specs.Bytes.{slot as slotOf, curveBytes, rowsOf}
+use Rattle.rows.specs.Work.{leadsRatio}
 use Rattle.rows.specs.declared.Shape.{Shape}
 use Rattle.rows.proofs.Placing.{slot-end, row-end, rows-small}
 use Rattle.rows.proofs.update.CrossedRows.{ratio-below}
@@ -23,7 +24,7 @@ Inv-loop rows shape r w s v c up down curve slot j₀ j =
     (j ≤ suc (shape .l))
     × ((t : ℕ) → t < j → (e : ℕ) → e ≤ shape .width
     → cross (symbols (shape .p) .ring) (v - w) (rowsOf shape rows r)
-    (ratioOf (symbols (shape .p)) (shape .u) s w v (rowsOf shape rows r) (rowsOf shape rows s)) (w - v) (rowsOf shape rows s) t e
+    (leadsRatio shape rows r w s v) (w - v) (rowsOf shape rows s) t e
     ≡ symbol (shape .p) 0)
 
 abbrev μ-loop : tie.MeasureT-loop
