@@ -8,6 +8,7 @@ pub mod Promises
 pub mod Turns
 pub mod Determined
 pub mod FinishedTurns
+pub mod Cutting
 pub mod FlatRows
 pub mod MovedCurves
 pub mod Multiplicities

@@ -4,15 +4,12 @@ use mathlib.Core.Logic.{_⊎_, inl, inr}
 use mathlib.Core.List.{List, [], _∷_, _++_}
 use Prim.Native.Nat.{ℕ, suc, _+_, _-_, _*_, _≤_, _<_, min}
 use native.Mathlib.Omega.{arith}
-use lib.ListN.{length, take}
-use lib.Seq.{getD-take, length-take-le}
+use lib.ListN.{length}
 use Rattle.field.specs.Field.{Field, FieldLaws}
 use Rattle.field.specs.Symbols.{symbols, symbolsOf}
 use Rattle.field.proofs.SymbolLaws.{symbols-field}
 use Rattle.poly.specs.Polynomials.{locator}
-use Rattle.poly.specs.Buffers.{AllBelow}
-use Rattle.poly.proofs.TableLaws.{first-determined, none-large}
-use Rattle.poly.proofs.Interpolation.{interpolate}
+use Rattle.poly.proofs.TableLaws.{first-determined}
 use Rattle.poly.proofs.Interpolating.{places-distinct}
 use Rattle.curves.specs.Curves.{Curve, Smallest}
 use Rattle.curves.specs.Start.{startRow, total}
@@ -20,30 +17,23 @@ use Rattle.curves.specs.Turns.{Outcome, stops, Turn, finished, updates}
 use Rattle.curves.specs.Finish.{monic}
 use Rattle.curves.proofs.Promises.{allowed, after, Run, none, Promised}
 use Rattle.curves.proofs.Leads.{lead-light}
-use Rattle.curves.proofs.Turns.{turn-onward}
 use Rattle.curves.proofs.Least.{monic-weight, monic-height}
-use Rattle.curves.proofs.Runs.{run-then, allowed-then, allowed-some}
+use Rattle.curves.proofs.Runs.{fresh-enters, run-then, allowed-then, allowed-some}
 use Rattle.curves.proofs.Formula.{formula-is, formula-positive}
-use Rattle.curves.proofs.FlatRows.{turn-flat}
 use Rattle.curves.proofs.Passing.{Begins, begins-same, promised, run-generates, run-smallest, run-unique, begins-start, passing-curve-exists}
 use Rattle.rows.specs.Bytes.{rowsBytes, curveBytes, rowsOf}
-use Rattle.rows.specs.Jobs.{AsLeft, HasTurned, HasFinished, Hands, turnTable, finishTable}
-use Rattle.rows.specs.Work.{Bytes}
+use Rattle.rows.specs.Jobs.{HasTurned, HasFinished, Hands, finishTable}
+use Rattle.rows.specs.Work.{Ready}
 use Rattle.rows.specs.Demands.{Request, ringFor, shapeFor, noteFor, updatesBound, Member, Begun, Driven, started, turned, HandsCurve, Pause}
 use Rattle.rows.specs.declared.Note.{Note}
-use Rattle.rows.specs.declared.Shape.{Shape}
 use Rattle.rows.specs.declared.Started.{Started}
 use Rattle.rows.specs.declared.Turned.{Turned}
 use Rattle.rows.specs.declared.Finished.{Finished}
 use Rattle.rows.proofs.Placing.{holds-bytes}
-use Rattle.rows.proofs.Notes.{GoodNote, good-fine, not-bad}
-use Rattle.rows.proofs.HeldRows.{rowsOf-flat, holds-row, holds-flat}
+use Rattle.rows.proofs.Notes.{GoodNote, good-note, good-fine, not-bad}
+use Rattle.rows.proofs.HeldRows.{holds-row}
 use Rattle.rows.proofs.Accepted.{Accepted, start-accepted, accepted-note}
-
-all-below : {S : Shape} {xs : List ℕ} → Bytes S xs → AllBelow (S .p) (take (rowsBytes S) xs)
-all-below {S} {xs} b i h =
-    let e = length-take-le (rowsBytes S) xs (b .room) in
-    rw (getD-take (rowsBytes S) xs i 0 (omega arith)) (b .below i (omega arith))
+use Rattle.rows.proofs.Turning.{ready-left, ready-entry, goes-rows, goes-ready}
 
 -- by how much row r may weigh more than u r and the degree of its coefficient of y^r
 abbrev surplus : Request → ℕ → ℕ
@@ -56,8 +46,7 @@ record Stands (q : Request) (sum : ℕ) (rows : List ℕ) (note : Note) (made : 
   list : List ℕ
   outcome : Outcome (symbols (q .p))
   run : Run (symbols (q .p)) (q .k - 1) (q .l) list start 1 outcome
-  good : GoodNote (noteFor q (outcome .row))
-  bytes : Bytes (shapeFor q) rows
+  ready : Ready (noteFor q (outcome .row)) rows
   rows-are : rowsOf (shapeFor q) rows ≡ outcome .rows
   note-is : note ≡ noteFor q (outcome .row)
   sum-is : sum ≡ allowed list
@@ -78,20 +67,25 @@ module _ (q : Request) where
         let points = places-distinct (accepted .places) in
         let low = accepted .low in
         let good = accepted-note accepted in
-        let (h, thr) = interpolate Φ (length (q .points)) (symbolsOf (q .p) (q .points)) (symbolsOf (q .p) (q .word)) points in
-        let b = begins-start Φ points (omega arith) (accepted .degree) (accepted .heights .order) thr in
-        let rows : ℕ → Curve (ringFor q) = startRow (ringFor q) (q .m) (locator (ringFor q) (length (q .points)) (symbolsOf (q .p) (q .points))) h in
-        let holds = begun .0 .rows (begun .1) h thr in
+        let s = begun .0 .rows (begun .1) in
+        let b = begins-start Φ points (omega arith) (accepted .degree) (accepted .heights .order) (s .through) in
+        let rows : ℕ → Curve (ringFor q) =
+        startRow (ringFor q) (q .m) (locator (ringFor q) (length (q .points)) (symbolsOf (q .p) (q .points))) (s .h) in
+        let begins =
+        begins-same Φ (λ i k. holds-row (shapeFor q) after k (rows i) (λ j e. s .holds i j e k) (λ j e x. b .fresh i k .height j e (omega arith))
+        (b .fresh i k .within)) b in
         record {
           start = rowsOf (shapeFor q) after;
-          begins =
-              begins-same Φ (λ i k. holds-row (shapeFor q) after k (rows i) (λ j e. holds i j e k) (λ j e x. b .fresh i k .height j e (omega arith))
-              (b .fresh i k .within)) b;
+          begins = begins;
           list = [];
           outcome = stops F 0 (rowsOf (shapeFor q) after) 1;
           run = none;
-          good = good;
-          bytes = holds-bytes (shapeFor q) after rows holds (good-fine good) (rw (begun .0 .rest .long) (accepted .room));
+          ready =
+              record {
+                good = not-bad good;
+                bytes = holds-bytes (shapeFor q) after rows (s .holds) (good-fine good) (rw (begun .0 .rest .long) (accepted .room));
+                sound = fresh-enters Φ (begins .fresh);
+              };
           rows-are = refl;
           note-is = begun .0 .note (begun .1);
           sum-is = refl;
@@ -110,14 +104,14 @@ module _ (q : Request) where
     abbrev o : Outcome F
     o = s .outcome
 
+    good : GoodNote (noteFor q (o .row))
+    good = good-note (s .ready .good)
+
     Φ : FieldLaws F
-    Φ = symbols-field (q .p) (s .good .size)
+    Φ = symbols-field (q .p) (good .size)
 
     promise : Promised F (q .k - 1) (shapeFor q .width) (q .l) (surplus q) (s .start) (s .list) o
     promise = promised Φ (s .begins) (s .run)
-
-    as-left : AsLeft (shapeFor q) (o .row) rows
-    as-left = record { below = none-large (all-below (s .bytes)); sound = rw (s .rows-are) (promise .kept .sound) }
 
     -- the next turn is accepted and goes by the rule: a turn more in the run
     stands-turned : {a : ℕ} {new : List ℕ} {back : Turned} → HasTurned note a rows new back
@@ -126,21 +120,12 @@ module _ (q : Request) where
       where
         go : HasTurned (noteFor q (o .row)) a rows new back → (back .number ≡ 0) × Stands q (sum + a) new (back .note) (made + back .updates)
         go t =
-            let room = s .bytes .room in
-            let entry =
-            first-determined (turnTable (noteFor q (o .row)) rows) (t .entry) 0 (t .first)
-            (inr (not-bad (s .good), inr (λ h. omega arith, inr (λ n. n as-left, refl)))) in
-            let g = t .goes entry in
+            let g = t .goes (ready-entry t (s .ready)) in
             let turn : Turn F (q .k - 1) (q .l) a (o .rows) (o .row) (g .outcome) = rw (s .rows-are) at (g .turn) in
             let run = run-then (s .run) turn in
-            let p = promised Φ (s .begins) run in
-            let flat = turn-flat Φ (promise .kept .sound) turn (rw (s .rows-are) at (rowsOf-flat (shapeFor q) rows)) in
-            let number = p .number in
-            let onward = turn-onward turn in
-            let good = s .good in
+            let number = promised Φ (s .begins) run .number in
             let sum-is = s .sum-is in
-            let made-is = s .made-is in
-            let long = t .rest .long in (
+            let made-is = s .made-is in (
               g .number ∙ omega arith,
               record {
                 start = s .start;
@@ -148,19 +133,8 @@ module _ (q : Request) where
                 list = s .list ++ (a ∷ []);
                 outcome = after F o (g .outcome);
                 run = run;
-                good =
-                    record {
-                      size = good .size;
-                      some = good .some;
-                      most = good .most;
-                      low = good .low;
-                      degree = good .degree;
-                      heights = good .heights;
-                      row = omega arith;
-                      last = p .kept .inside;
-                    };
-                bytes = holds-bytes (shapeFor q) new (g .outcome .rows) (g .rows) (s .bytes .fine) (omega arith);
-                rows-are = holds-flat (shapeFor q) new (g .outcome .rows) (g .rows) flat (p .kept .sound .light);
+                ready = goes-ready (s .ready) g (t .rest);
+                rows-are = goes-rows (s .ready) g (t .rest);
                 note-is = g .next;
                 sum-is = omega (arith, allowed-then (s .list) a);
                 made-is = omega (arith, g .updates);
@@ -171,11 +145,11 @@ module _ (q : Request) where
     row-is = ap (λ (x : Note). x .r) (s .note-is)
 
     bound-is : total (q .l) (λ r. r * surplus q r) ≡ updatesBound q
-    bound-is = formula-is (length (q .points)) (q .k) (q .m) (q .l) (s .good .heights .order)
+    bound-is = formula-is (length (q .points)) (q .k) (q .m) (q .l) (good .heights .order)
 
     stands-finished : updatesBound q ≤ allowed (s .list) → o .row ≡ suc (q .l)
     stands-finished h =
-        let positive = formula-positive (length (q .points)) (q .k) (q .m) (q .l) (s .good .degree) (s .good .heights .some) in
+        let positive = formula-positive (length (q .points)) (q .k) (q .m) (q .l) (good .degree) (good .heights .some) in
         promise .finished (allowed-some (s .list) (omega arith)) (rw bound-is h)
 
     stands-hands : o .row ≡ suc (q .l) → {before new : List ℕ} {back : Finished} → HasFinished (noteFor q (o .row)) rows before new back
@@ -197,17 +171,17 @@ module _ (q : Request) where
         done : back .number ≡ 0
         done =
             first-determined (finishTable (noteFor q (o .row)) rows before) (back .number) 0 (f .first)
-            (inr (not-bad (s .good), inr (enough, inr (λ h. omega arith, inr (λ n. n as-left, refl)))))
+            (inr (s .ready .good, inr (enough, inr (λ h. omega arith, inr (λ n. n (ready-left (s .ready)), refl)))))
           where
             enough : (length rows < rowsBytes (shapeFor q)) ⊎ (length before < curveBytes (shapeFor q)) → ⊥
-            enough (inl h) = omega (arith, s .bytes .room)
+            enough (inl h) = omega (arith, s .ready .bytes .room)
             enough (inr h) = omega arith
 
         hands : Hands (shapeFor q) (o .rows) new (back .weight) (back .height)
         hands = rw (s .rows-are) at (f .curve done)
 
         Q : Curve (ringFor q)
-        Q = monic F (q .k - 1) (back .weight) (hands .row) (o .rows (hands .row))
+        Q = monic F (hands .row) (hands .lightest .lead .degree) (o .rows (hands .row))
 
         smallest : Smallest (ringFor q) (q .k - 1) (Member q) Q
         smallest = run-smallest Φ (s .begins) (s .run) e (hands .lightest)

@@ -6,4 +6,6 @@ pub mod Starting
 pub mod Going
 pub mod Finishing
 pub mod Determined
+pub mod Turning
 pub mod Demands
+pub mod Cutting
