@@ -64,7 +64,8 @@ module _ {F : Field} (Φ : FieldLaws F) where
         first : Curve R
         first = cross R (d .below .degree - d .lead .degree) (rows r) c (d .lead .degree - d .below .degree) (rows s)
 
-        go : (t : Dec (d .below .degree ≤ d .lead .degree)) → Swapped R w v (rows r) (rows s) (put r first (put s (choose t (rows s) (rows r)) rows) s)
+        go : (t : Dec (d .below .degree ≤ d .lead .degree))
+            → Swapped R w v (rows r) (rows s) (put r first (put s (choose t (rows s) (rows r)) rows) s)
         go (yes h) = let a = d .lead .weight in let b = d .below .weight in inl (omega arith, put-other r _ _ s (d .other) ∙ put-same s _ rows)
         go (no h) = let a = d .lead .weight in let b = d .below .weight in inr (omega arith, put-other r _ _ s (d .other) ∙ put-same s _ rows)
 

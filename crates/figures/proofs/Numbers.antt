@@ -96,4 +96,5 @@ module _ (points word : List ℕ) where
     l-9 k m t low degree =
         refused 4 (λ lent. not-unlisted seven ⊳ good-count some most ⊳ (λ n. n same) ⊳ good-degree low degree ⊳ inl
         (inr (inr (inr (omega arith))), refl))
-        (λ room messages. not-unlisted seven ⊳ good-count some most ⊳ (λ n. n same) ⊳ good-degree low degree ⊳ inl (inr (inr (inr (omega arith))), refl))
+        (λ room messages. not-unlisted seven ⊳ good-count some most ⊳ (λ n. n same) ⊳ good-degree low degree ⊳ inl
+        (inr (inr (inr (omega arith))), refl))

@@ -42,8 +42,8 @@ module _ {q : Request} where
   once-more {a = a} {updates} (none b) t = rw (zero-add a, zero-add updates) (once b t)
   once-more (once b f) t = once b (turned-then f refl t)
 
-  module _ {allowed total total′ : ℕ} {filled new lent also rows rows′ : List ℕ} {note note′ : Note} {one other : Started} (b : Begun q lent filled one)
-      (c : Begun q also new other) (f : HasTurned (noteFor q 1) allowed filled rows (made note total))
+  module _ {allowed total total′ : ℕ} {filled new lent also rows rows′ : List ℕ} {note note′ : Note} {one other : Started}
+      (b : Begun q lent filled one) (c : Begun q also new other) (f : HasTurned (noteFor q 1) allowed filled rows (made note total))
       (g : HasTurned (noteFor q 1) allowed new rows′ (made note′ total′)) where
     ready : Ready (noteFor q 1) filled
     ready = turn-ready (f .first) (done-entry f refl)

@@ -17,7 +17,8 @@ use Rattle.curves.proofs.Heights.{height-unique}
 use Rattle.curves.proofs.Leads.{lead-degree}
 use Rattle.curves.proofs.Least.{lightest-unique}
 use Rattle.rows.specs.Bytes.{shape, rowsBytes, curveBytes}
-use Rattle.rows.specs.Jobs.{startTable, HoldsStart, HasStarted, shapeOf, atRow, turnTable, Goes, HasTurned, withNote, finishTable, Hands, HasFinished}
+use Rattle.rows.specs.Jobs.{startTable, HoldsStart, HasStarted, shapeOf, atRow, turnTable, Goes, HasTurned, withNote}
+use Rattle.rows.specs.Jobs.{finishTable, Hands, HasFinished}
 use Rattle.rows.specs.declared.Note.{Note}
 use Rattle.rows.specs.declared.Shape.{Shape}
 use Rattle.rows.specs.declared.Started.{Started}

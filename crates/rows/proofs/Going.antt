@@ -153,7 +153,8 @@ module _ {S : Shape} {start allowance : ℕ} {before xs : List ℕ} {r left w s 
           let k = g .within in
           let a : left ≡ suc (left - 1) = omega arith in
           let m : allowance - (left - 1) + o .updates ≡ allowance - left + suc (o .updates) = omega arith in
-          rw m (g .back (counted (symbols (S .p)) o) (rw a (updates {r = r} w s v (due x) (rw (← rule-update x) at n) (rw (is, ← rule-update x) at t))))
+          rw m (g .back (counted (symbols (S .p)) o)
+          (rw a (updates {r = r} w s v (due x) (rw (← rule-update x) at n) (rw (is, ← rule-update x) at t))))
 
 -- the three ends
 module _ {S : Shape} {note : Note} {allowance : ℕ} {before xs : List ℕ} {r left : ℕ} (is : S ≡ shapeOf note)

@@ -108,8 +108,8 @@ module _ {note : Note} {a : ℕ} {xs ys : List ℕ} {back : Turned} (f : HasTurn
       go : HasTurned (atRow note (g .outcome .row)) b ys zs last
           → HasTurned note (a + b) xs zs (record { number = last .number; note = last .note; updates = back .updates + last .updates })
       go t =
-          let e = first-determined (turnTable (atRow note (g .outcome .row)) ys) (t .entry) 0 (t .first) (ready-turn (goes-ready ready g (f .rest))) in
-          let h = t .goes e in
+          let next = ready-turn (goes-ready ready g (f .rest)) in
+          let h = t .goes (first-determined (turnTable (atRow note (g .outcome .row)) ys) (t .entry) 0 (t .first) next) in
           let n = g .number in
           let m = h .number in
           let u = g .updates in

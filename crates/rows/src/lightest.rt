@@ -50,7 +50,8 @@ fn copy_from(dst: &mut [u8], src: &[u8], at: usize, len: usize)
 // The row times the inverse of its leading coefficient.
 pub fn hand_over(rows: &[u8], shape: Shape, row: usize, weight: usize, curve: &mut [u8])
     requires { ⌜ HandsOver shape (now rows) row weight (now curve) ⌝ }
-    ensures { λ _. ⌜ HoldsCurve shape (now (curve .exit)) (monic (symbols (shape .p)) row (weight - shape .u * row) (rowsOf shape (now (rows .entry)) row))
+    ensures { λ _. ⌜ HoldsCurve shape (now (curve .exit))
+        (monic (symbols (shape .p)) row (weight - shape .u * row) (rowsOf shape (now (rows .entry)) row))
         × Untouched (curveBytes shape) (now (curve .entry)) (now (curve .exit)) ⌝ }
 {
     let p = shape.p;

@@ -94,7 +94,8 @@ module _ {S : Shape} {xs : List ℕ} {row weight : ℕ} {curve : List ℕ} (h : 
       rw (zero-add (j * slot S + e)) at
       (scaled-inside (S .p) (invByte (S .p) lead) 0 copy (curveBytes S) (j * slot S + e) (omega (arith, copy-length, h .room)) q)
       ∙ rw (copy-at q, a, timesBytes, symbol-invByte, ← rowsOf-at S xs (h .inside) (h .inside) lead-short, ← rowsOf-at S xs (h .inside) g k)
-      (ap (λ (x : Element (S .p)). x .byte) (sym (monic-at (symbols-field (S .p) (h .bytes .fine .size)) row (weight - S .u * row) (rowsOf S xs row) j e)))
+      (ap (λ (x : Element (S .p)). x .byte)
+      (sym (monic-at (symbols-field (S .p) (h .bytes .fine .size)) row (weight - S .u * row) (rowsOf S xs row) j e)))
 
   monic-rest : Untouched (curveBytes S) curve monicBytes
   monic-rest =
