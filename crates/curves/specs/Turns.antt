@@ -2,8 +2,8 @@
 --   cross a P c b Q     x^a P - c x^b Q
 --   Due u l r rows w s v   an update is due: row r leads at (w, s), with s other than r, and row s at (v, s)
 --   ratio s a b P Q     the coefficient of x^a y^s in P over that of x^b y^s in Q
---   update r s a b rows   the rows after the update, where row r leads at x^a y^s and row s at x^b y^s. With d = a - b,
---                       row r becomes row r - c x^d row s, or x^(-d) row r - c row s, and then row s becomes the old row r
+--   update r s a b rows   the rows after the update, where row r leads at x^a y^s and row s at x^b y^s. With d = a - b and c the ratio,
+--                       row r becomes row r - c x^d row s; or, where d is negative, x^(-d) row r - c row s, and row s the old row r
 --   updated due         the rows after the update that is due
 --   Outcome             what a turn leaves: its number, the rows, the current row, and the updates made
 --   stops number rows r     it leaves these rows, with no update; counted o  one update more than o
