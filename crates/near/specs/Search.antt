@@ -3,14 +3,17 @@
 --   prefixed g i        g + x^i y
 --   Fits N g i Q c      c fits after the i symbols that form g: it is a root, at x = 0, of Q at y = g + x^i y divided by its highest power
 --                       of x
--- The search keeps one curve, T = Q at y = g + y, and reads from it which symbols fit (`level-fits`, proofs/search/Fitting.antt).
+--   each p f            f 0, .., f (p-1), one after the other
+--   Searched task N Q left x list   the list is what the search gives after the symbols x, where `left` symbols are still to be chosen: each
+--                       next symbol is tried, a fitting one opens the next level and any other gives nothing; at the end the agreements decide
+-- The search as it is done keeps one curve, T = Q at y = g + y, and reads from it which symbols fit: `level`, below. It finds what the search
+-- of the rules gives, and nothing else does: `level-searched`, `searched-level`; for the list: `list-searched` (proofs/Searching.antt).
 --   chosen N i c T      T at y = c x^i + y: what T becomes when c is chosen as the symbol at x^i
 --   slice i v T         the coefficient of x^v in T at y = x^i y, as a polynomial in y
 --   least W test        the least number below W that passes the test, or W
 --   some? N f           whether one of the first N coefficients is not zero
 --   lowest N W i T      the least v below W at which it is not zero
 --   fits? N W i T c     whether c is a root of it there
---   each p f            f 0, .., f (p-1), one after the other
 --   curveLeft task N x y T      the curve T as the symbols y leave it, chosen one by one after x; `curveLeft task N [] x Q` is Q as the
 --                       symbols x leave it
 --   level task N W left x T    the messages found that begin with x, where T is what x leaves and `left` symbols are still to be chosen:
@@ -20,7 +23,7 @@
 use mathlib.Core.Path.{_≡_}
 use mathlib.Core.Bool.{Bool, true, false}
 use mathlib.Core.List.{List, [], _∷_, _++_}
-use Prim.Native.Nat.{ℕ, zero, suc, _-_, _*_, _<_}
+use Prim.Native.Nat.{ℕ, zero, suc, _-_, _*_, _≤_, _<_}
 use native.Mathlib.Decide.{decLe}
 use lib.ListN.{length}
 use Rattle.field.specs.Field.{Ring, Field}
@@ -42,8 +45,25 @@ module _ (R : Ring) where
     pub highest : ((j : ℕ) → curveAt N (prefixed g i) Q j power ≡ R .𝟘) → ⊥
     pub root : value R c N (λ j. curveAt N (prefixed g i) Q j power) ≡ R .𝟘
 
+unfoldable pub each : ℕ → (ℕ → List (List ℕ)) → List (List ℕ)
+each zero f = []
+each (suc p) f = each p f ++ f p
+
+module _ {F : Field} (task : Task F) (N : ℕ) (Q : Curve (F .ring)) where
+  abbrev pub Searched : ℕ → List ℕ → List (List ℕ) → Type 0
+  Searched zero x list =
+      (task .t ≤ agreements task (task .n) (polynomial task x) → list ≡ x ∷ [])
+      × (agreements task (task .n) (polynomial task x) < task .t → list ≡ [])
+  Searched (suc left) x list =
+      (messages : ℕ → List (List ℕ))
+      × (list ≡ each (task .p) messages)
+      × ((c : ℕ) → c < task .p
+      → (Fits (F .ring) N (polynomial task x) (length x) Q (task .element c) → Searched left (x ++ (c ∷ [])) (messages c))
+      × ((Fits (F .ring) N (polynomial task x) (length x) Q (task .element c) → ⊥) → messages c ≡ []))
+
+module _ (R : Ring) where
   abbrev pub chosen : ℕ → ℕ → R .Car → Curve R → Curve R
-  chosen N i c T = curveAt N (consS (Series R) (mono R c i) (oneS (Series R))) T
+  chosen N i c T = curveAt R N (consS (Series R) (mono R c i) (oneS (Series R))) T
 
   unfoldable pub slice : ℕ → ℕ → Curve R → Seq R
   slice i v T j = choose (decLe (i * j) v) (T j (v - i * j)) (R .𝟘)
@@ -51,10 +71,6 @@ module _ (R : Ring) where
 unfoldable pub least : ℕ → (ℕ → Bool) → ℕ
 least zero test = 0
 least (suc W) test = elim (test 0) [ true ↦ 0 | false ↦ suc (least W (λ v. test (suc v))) ]
-
-unfoldable pub each : ℕ → (ℕ → List (List ℕ)) → List (List ℕ)
-each zero f = []
-each (suc p) f = each p f ++ f p
 
 module _ (F : Field) where
   unfoldable pub some? : ℕ → Seq (F .ring) → Bool
