@@ -15,7 +15,8 @@ use Rattle.text.specs.Requests.{HasRead}
 use Rattle.text.specs.Requests.HasRead.{readable, unreadable}
 use Rattle.text.specs.Answers.{reply, HasWritten}
 use Rattle.text.specs.declared.Request.{Request}
-use Rattle.program.specs.Program.{Answered, unread, listed}
+use Rattle.program.specs.Program.{Answered}
+use Rattle.program.specs.Program.ReplyTo.{no-request, on-request}
 
 true≢false : true ≡ false → ⊥
 true≢false e = subst T e tt
@@ -31,7 +32,7 @@ first-part xs ys = take-append-le (length xs) xs ys (le-refl (length xs)) ∙ ta
 pub unread-answer : {text before after : List ℕ} {r : ℕ} {back : Request} → HasRead text back → back .ok ≡ false
     → HasWritten (reply 14 0 0 0 0 []) before after r → Answered text before after r
 unread-answer (readable q p) e w = absurd (true≢false e)
-unread-answer (unreadable none) e w = unread none w
+unread-answer (unreadable none) e w = record { printed = reply 14 0 0 0 0 []; replies = no-request none; prints = w }
 
 -- the list that the code asks is that of the request read
 module _ {text before after : List ℕ} {r : ℕ} (left messages : List ℕ) (near : Near) where
@@ -40,5 +41,10 @@ module _ {text before after : List ℕ} {r : ℕ} (left messages : List ℕ) (ne
       (replicate workingRoom 0) left (replicate messagesMost 0) messages near
       → HasWritten (reply (near .number) (near .updates) (near .weight) (near .count) (back .k) messages) before after r
       → Answered text before after r
-  listed-answer (readable q p) e h w = listed q p left messages near (rw (first-part (q .points) _, first-part (q .word) _) at h) w
+  listed-answer (readable q p) e h w =
+      record {
+        printed = reply (near .number) (near .updates) (near .weight) (near .count) (q .k) messages;
+        replies = on-request q p left messages near (rw (first-part (q .points) _, first-part (q .word) _) at h);
+        prints = w;
+      }
   listed-answer (unreadable none) e h w = absurd (true≢false (sym e))

@@ -1,6 +1,6 @@
 -- A text has one answer: two outcomes of `answer` on the same text and lent bytes leave the same bytes and the same length. The text has one
--- meaning, the list job one reply on it, and a reply one text.
-use mathlib.Core.Path.{_≡_, sym, subst}
+-- meaning, the list job hands back one thing for it, and so there is one reply, which is printed in one way.
+use mathlib.Core.Path.{_≡_, refl, ap, ap₂, _∙_, subst}
 use mathlib.Core.List.{List}
 use Prim.Native.Nat.{ℕ}
 use lib.ListN.{replicate}
@@ -9,33 +9,24 @@ use Rattle.near.specs.Job.{HasListed}
 use Rattle.near.specs.declared.Near.{Near}
 use Rattle.near.proofs.Determined.{list-determined}
 use Rattle.text.specs.Requests.{Meaning}
-use Rattle.text.specs.Answers.{reply, HasWritten}
+use Rattle.text.specs.Answers.{Reply, reply, HasWritten}
 use Rattle.text.proofs.Grammar.{one-meaning}
 use Rattle.text.proofs.Determined.{write-determined}
-use Rattle.program.specs.Program.{Answered, unread, listed}
+use Rattle.program.specs.Program.{ReplyTo, Answered}
+use Rattle.program.specs.Program.ReplyTo.{no-request, on-request}
 
--- what `listed` says of a request
-record Listed (q : Meaning) (before after : List ℕ) (r : ℕ) : Type 0 where
-  left : List ℕ
-  messages : List ℕ
-  back : Near
-  lists : HasListed (q .field) (q .points) (q .word) (q .k) (q .m) (q .l) (q .t) (replicate workingRoom 0) left
-      (replicate messagesMost 0) messages back
-  writes : HasWritten (reply (back .number) (back .updates) (back .weight) (back .count) (q .k) messages) before after r
-
-listed-determined : {q : Meaning} {before x y : List ℕ} {r s : ℕ} → Listed q before x r → Listed q before y s → (x ≡ y) × (r ≡ s)
-listed-determined a b =
-    let same = list-determined (a .lists) (b .lists) in
-    let back : b .back ≡ a .back = sym (same .0) in
-    let messages : b .messages ≡ a .messages = sym (same .2) in
-    write-determined (a .writes) (rw (messages, back) at (b .writes))
+pub reply-determined : {text : List ℕ} {a b : Reply} → ReplyTo text a → ReplyTo text b → a ≡ b
+reply-determined (no-request none) (no-request none′) = refl
+reply-determined (no-request none) (on-request q p left messages back h) = absurd (none q p)
+reply-determined (on-request q p left messages back h) (no-request none) = absurd (none q p)
+reply-determined (on-request q p left messages back h) (on-request q′ p′ left′ messages′ back′ h′) =
+    let h″ =
+    subst (λ (x : Meaning). HasListed (x .field) (x .points) (x .word) (x .k) (x .m) (x .l) (x .t)
+    (replicate workingRoom 0) left′ (replicate messagesMost 0) messages′ back′) (one-meaning p′ p) h′ in
+    let same = list-determined h h″ in
+    ap₂ (λ (x : Near) (xs : List ℕ). reply (x .number) (x .updates) (x .weight) (x .count) (q .k) xs) (same .0) (same .2)
+    ∙ ap (λ (x : Meaning). reply (back′ .number) (back′ .updates) (back′ .weight) (back′ .count) (x .k) messages′) (one-meaning p p′)
 
 pub answer-determined : {text before x y : List ℕ} {r s : ℕ} → Answered text before x r → Answered text before y s → (x ≡ y) × (r ≡ s)
-answer-determined (unread none w) (unread none′ w′) = write-determined w w′
-answer-determined (unread none w) (listed q p left messages back h w′) = absurd (none q p)
-answer-determined (listed q p left messages back h w) (unread none w′) = absurd (none q p)
-answer-determined {before = before} {y = y} {s = s} (listed q p left messages back h w) (listed q′ p′ left′ messages′ back′ h′ w′) =
-    listed-determined
-    (record { left = left; messages = messages; back = back; lists = h; writes = w })
-    (subst (λ (m : Meaning). Listed m before y s) (one-meaning p′ p)
-    (record { left = left′; messages = messages′; back = back′; lists = h′; writes = w′ }))
+answer-determined {before = before} {y = y} {s = s} a b =
+    write-determined (a .prints) (subst (λ (o : Reply). HasWritten o before y s) (reply-determined (b .replies) (a .replies)) (b .prints))

@@ -1,4 +1,4 @@
--- In room for 1,564 bytes every answer is written whole: a list has at most 8 messages of 30 symbols, and all its messages are there.
+-- In room for 1,564 bytes the reply to a text is written whole: a list has at most 8 messages of 30 symbols, and all its messages are there.
 use mathlib.Core.Path.{_≡_, subst}
 use mathlib.Core.List.{List, _++_}
 use Prim.Native.Nat.{ℕ, _+_, _*_, _≤_, _<_}
@@ -13,7 +13,9 @@ use Rattle.near.proofs.Listing.{Taken, list-taken}
 use Rattle.text.specs.Answers.{Reply, answer, room, HasWritten}
 use Rattle.text.specs.Answers.HasWritten.{written}
 use Rattle.text.proofs.Determined.{write-determined}
-use Rattle.program.specs.Program.{Answered, unread, listed}
+use Rattle.program.specs.Program.{ReplyTo, Answered}
+use Rattle.program.specs.Program.ReplyTo.{no-request, on-request}
+use Rattle.program.proofs.Determined.{reply-determined}
 
 -- the messages are few and short, and all there
 record Printable (k : ℕ) (messages : List ℕ) (back : Near) : Type 0 where
@@ -51,17 +53,18 @@ module _ {p : ℕ} {points word : List ℕ} {k m l t : ℕ} {lent before message
           (subst (First (listTable p points word k m l t lent before)) z (h .first))) (h .answers z)
       go (no z) = none-printable (rw (h .refused z .0))
 
-written-whole : {o : Reply} {before after : List ℕ} {r : ℕ} → HasWritten o before after r → room o ≤ length before
-    → o .count * o .k ≤ length (o .messages)
-    → (after ≡ answer o ++ drop (length (answer o)) before) × (r ≡ length (answer o))
-written-whole w h k = write-determined w (written h k)
+-- the reply has room, and its messages are there
+reply-fits : {text : List ℕ} {o : Reply} → ReplyTo text o → (room o ≤ 1564) × (o .count * o .k ≤ length (o .messages))
+reply-fits (no-request none) = (omega arith, omega arith)
+reply-fits (on-request q p left messages back h) =
+    let f = listed-printable h in
+    let few = f .few in
+    (omega arith, f .there)
 
-pub answer-whole : {text before after : List ℕ} {r : ℕ} → Answered text before after r → 1564 ≤ length before
-    → (o : Reply) × (after ≡ answer o ++ drop (length (answer o)) before) × (r ≡ length (answer o))
-answer-whole (unread none w) h =
-    let e = written-whole w (omega arith) (omega arith) in
-    (_, e .0, e .1)
-answer-whole (listed q p left messages back a w) h =
-    let f = listed-printable a in
-    let e = written-whole w (omega arith) (f .there) in
-    (_, e .0, e .1)
+pub answer-whole : {text before after : List ℕ} {r : ℕ} {o : Reply} → Answered text before after r → ReplyTo text o → 1564 ≤ length before
+    → (after ≡ answer o ++ drop (length (answer o)) before) × (r ≡ length (answer o))
+answer-whole {before = before} {after} {r} {o} a replies h =
+    let fits = reply-fits replies in
+    let enough = fits .0 in
+    write-determined (subst (λ (x : Reply). HasWritten x before after r) (reply-determined (a .replies) replies) (a .prints))
+    (written (omega arith) (fits .1))
