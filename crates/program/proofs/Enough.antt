@@ -10,7 +10,7 @@ use Rattle.poly.specs.Table.{First}
 use Rattle.near.specs.Job.{listTable, Lists, Answers, HasListed}
 use Rattle.near.specs.declared.Near.{Near}
 use Rattle.near.proofs.Listing.{Taken, list-taken}
-use Rattle.text.specs.Answers.{Reply, answer, room, HasWritten}
+use Rattle.text.specs.Answers.{Reply, answer, roomFor, HasWritten}
 use Rattle.text.specs.Answers.HasWritten.{written}
 use Rattle.text.proofs.Determined.{write-determined}
 use Rattle.program.specs.Program.{ReplyTo, Answered}
@@ -54,7 +54,7 @@ module _ {p : ℕ} {points word : List ℕ} {k m l t : ℕ} {lent before message
       go (no z) = none-printable (rw (h .refused z .0))
 
 -- the reply has room, and its messages are there
-reply-fits : {text : List ℕ} {o : Reply} → ReplyTo text o → (room o ≤ 1564) × (o .count * o .k ≤ length (o .messages))
+reply-fits : {text : List ℕ} {o : Reply} → ReplyTo text o → (roomFor o ≤ 1564) × (o .count * o .k ≤ length (o .messages))
 reply-fits (no-request none) = (omega arith, omega arith)
 reply-fits (on-request q p left messages back h) =
     let f = listed-printable h in

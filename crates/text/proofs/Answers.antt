@@ -5,7 +5,7 @@ use Prim.Native.Nat.{ℕ, zero, suc, _*_, _≤_}
 use native.Mathlib.Nat.{zero-add}
 use lib.ListN.{length, drop}
 use Rattle.text.specs.Lines.{bytes, line}
-use Rattle.text.specs.Answers.{decimal, Reply, details, answer, room, HasWritten}
+use Rattle.text.specs.Answers.{decimal, Reply, details, answer, roomFor, HasWritten}
 use Rattle.text.specs.Answers.HasWritten.{written}
 use Rattle.text.specs.Writing.{Put}
 
@@ -27,7 +27,7 @@ pub all-lines : (o : Reply) {before after : List ℕ} {bound r : ℕ} → o .num
     → Put before 0 (answer o) bound after r
 all-lines o {before} {after} {bound} {r} e p = subst (λ (n : ℕ). Put before 0 (first o ++ details n o) bound after r) (sym e) p
 
-pub has-written : (o : Reply) {before after : List ℕ} {bound r : ℕ} → room o ≤ length before → o .count * o .k ≤ length (o .messages)
+pub has-written : (o : Reply) {before after : List ℕ} {bound r : ℕ} → roomFor o ≤ length before → o .count * o .k ≤ length (o .messages)
     → Put before 0 (answer o) bound after r → HasWritten o before after r
 has-written o {before} h k p =
     let long : length (answer o) ≡ _ = sym (p .ends ∙ zero-add (length (answer o))) in

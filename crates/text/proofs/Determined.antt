@@ -7,7 +7,7 @@ use native.Mathlib.Omega.{arith}
 use lib.ListN.{length, drop, length-append, length-drop}
 use Rattle.text.specs.Requests.{stored, HasRead}
 use Rattle.text.specs.Requests.HasRead.{readable, unreadable}
-use Rattle.text.specs.Answers.{Reply, answer, room, HasWritten}
+use Rattle.text.specs.Answers.{Reply, answer, roomFor, HasWritten}
 use Rattle.text.specs.Answers.HasWritten.{written, refused}
 use Rattle.text.specs.declared.Request.{Request}
 use Rattle.text.proofs.Grammar.{one-meaning}
@@ -18,8 +18,8 @@ read-determined (readable r p) (unreadable n) = absurd (n r p)
 read-determined (unreadable n) (readable s q) = absurd (n s q)
 read-determined (unreadable n) (unreadable m) = refl
 
-enough : (o : Reply) (before : List ℕ) → room o ≤ length before → o .count * o .k ≤ length (o .messages)
-    → (length before < room o) ⊎ (length (o .messages) < o .count * o .k) → ⊥
+enough : (o : Reply) (before : List ℕ) → roomFor o ≤ length before → o .count * o .k ≤ length (o .messages)
+    → (length before < roomFor o) ⊎ (length (o .messages) < o .count * o .k) → ⊥
 enough o before h k = ⊎-elim (λ s. omega arith) (λ s. omega arith)
 
 pub write-determined : {o : Reply} {before x y : List ℕ} {r s : ℕ} → HasWritten o before x r → HasWritten o before y s → (x ≡ y) × (r ≡ s)

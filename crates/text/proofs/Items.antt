@@ -9,7 +9,7 @@ use lib.ListN.{length, set, take, drop, replicate, length-append}
 use lib.Seq.{take-at, set-at, append-snoc}
 use Rattle.poly.specs.Limits.{fieldMost}
 use Rattle.text.specs.Requests.{Number, Numbers, FewNumbers, padded}
-use Rattle.text.specs.Requests.Numbers.{one, more}
+use Rattle.text.specs.Requests.Numbers.{single, more}
 use Rattle.text.specs.Reading.{Seeks, HoldsNumbers, ReadsNumbers, part}
 use Rattle.text.proofs.Seeking.{seek-seam, seek-last}
 use Rattle.text.proofs.Numbers.{Parted, number-same, numbers-some, numbers-last, numbers-more}
@@ -19,16 +19,16 @@ pub record SoFar (text items : List ℕ) (count at : ℕ) : Type 0 where
   pub read : List ℕ
   pub held : HoldsNumbers read count items
   pub few : count ≤ fieldMost
-  pub within : at ≤ length text
+  pub inside : at ≤ length text
   pub whole : (ns : List ℕ) → Numbers (drop at text) ns → Numbers text (read ++ ns)
   pub parts : (ns : List ℕ) → Numbers text ns → (ms : List ℕ) × (ns ≡ read ++ ms) × Numbers (drop at text) ms
 
 pub none-yet : (text : List ℕ) → SoFar text (padded []) 0 0
 none-yet text = record {
   read = [];
-  held = record { counted = refl; padded = refl };
+  held = record { count-is = refl; items-are = refl };
   few = omega arith;
-  within = omega arith;
+  inside = omega arith;
   whole = λ ns r. r;
   parts = λ ns r. (ns, refl, r);
 }
@@ -36,26 +36,26 @@ none-yet text = record {
 holds-more : (xs items : List ℕ) (count n : ℕ) → count < fieldMost → HoldsNumbers xs count items
     → HoldsNumbers (xs ++ n ∷ []) (count + 1) (set items count n)
 holds-more xs items count n h held =
-    let long : length (xs ++ n ∷ []) ≡ count + 1 = rw length-append (omega (arith, held .counted)) in
+    let long : length (xs ++ n ∷ []) ≡ count + 1 = rw length-append (omega (arith, held .count-is)) in
     let zeros : List ℕ = replicate (fieldMost - length (xs ++ n ∷ [])) 0 in
-    let left : fieldMost - length xs ≡ suc (fieldMost - length (xs ++ n ∷ [])) = omega (arith, held .counted) in
+    let left : fieldMost - length xs ≡ suc (fieldMost - length (xs ++ n ∷ [])) = omega (arith, held .count-is) in
     record {
-      counted = sym long;
-      padded =
-          ap (λ (l : List ℕ). set l count n) (held .padded ∙ ap (λ (k : ℕ). xs ++ replicate k 0) left)
-          ∙ set-at xs 0 zeros n count (sym (held .counted))
+      count-is = sym long;
+      items-are =
+          ap (λ (l : List ℕ). set l count n) (held .items-are ∙ ap (λ (k : ℕ). xs ++ replicate k 0) left)
+          ∙ set-at xs 0 zeros n count (sym (held .count-is))
           ∙ sym (append-snoc xs n zeros);
     }
 
 take-held : {xs items : List ℕ} {count : ℕ} → HoldsNumbers xs count items → take count items ≡ xs
-take-held {xs = xs} {count = count} held = ap (take count) (held .padded) ∙ take-at xs _ count (sym (held .counted))
+take-held {xs = xs} {count = count} held = ap (take count) (held .items-are) ∙ take-at xs _ count (sym (held .count-is))
 
 lists-not : (text : List ℕ) → ((ns : List ℕ) → FewNumbers text ns → ⊥) → ReadsNumbers text false 0 (padded [])
-lists-not text f = record { meant = record { holds = λ e. absurd (false≢true e); fails = λ _. f }; kept = λ e. absurd (false≢true e) }
+lists-not text f = record { meant = record { holds = λ e. absurd (false≢true e); fails = λ _. f }; held = λ e. absurd (false≢true e) }
 
 pub too-many : {text items : List ℕ} {count at : ℕ} → SoFar text items count at → fieldMost ≤ count → ReadsNumbers text false 0 (padded [])
 too-many {text = text} so h = lists-not text (λ ns r. let p = so .parts ns (r .numbers) in
-    omega (arith, r .few, so .held .counted, simp length-append at (ap length (p .1)), numbers-some (p .2)))
+    omega (arith, r .few, so .held .count-is, simp length-append at (ap length (p .1)), numbers-some (p .2)))
 
 module _ {text items : List ℕ} {count at to : ℕ} (so : SoFar text items count at) (ends : Seeks 44 text at to) where
   parted : {ns : List ℕ} → to < length text → Numbers (drop at text) ns → Parted (part at to text) (drop (to + 1) text) ns
@@ -66,7 +66,7 @@ module _ {text items : List ℕ} {count at to : ℕ} (so : SoFar text items coun
     read = so .read ++ n ∷ [];
     held = holds-more (so .read) items count n c (so .held);
     few = omega arith;
-    within = omega arith;
+    inside = omega arith;
     whole = λ ns s. rw append-snoc (so .whole (n ∷ ns) (rw (seek-seam ends h) (more r s)));
     parts = λ ns s.
         let p = so .parts ns s in
@@ -83,11 +83,11 @@ module _ {text items : List ℕ} {count at to : ℕ} (so : SoFar text items coun
   last-item n c h r =
       let held = holds-more (so .read) items count n c (so .held) in
       let listed : FewNumbers text (so .read ++ n ∷ []) =
-      record { numbers = so .whole (n ∷ []) (rw (seek-last ends h) (one r)); few = omega (arith, held .counted) } in
+      record { numbers = so .whole (n ∷ []) (rw (seek-last ends h) (single r)); few = omega (arith, held .count-is) } in
       let is = take-held held in
       record {
         meant = record { holds = λ _. subst (FewNumbers text) (sym is) listed; fails = λ e. absurd (true≢false e) };
-        kept = λ _. subst (λ xs. HoldsNumbers xs (count + 1) (set items count n)) (sym is) held;
+        held = λ _. subst (λ xs. HoldsNumbers xs (count + 1) (set items count n)) (sym is) held;
       }
 
   pub no-item : ((n : ℕ) → Number (part at to text) n → ⊥) → ReadsNumbers text false 0 (padded [])

@@ -5,7 +5,7 @@ use Prim.Native.Nat.{ℕ, _+_, _*_, _≤_}
 use native.Mathlib.Omega.{arith}
 use lib.ListN.{length, length-append}
 use Rattle.text.specs.Requests.{Numbers, FewNumbers, Optional, Line, Meaning, Readable}
-use Rattle.text.specs.Requests.Numbers.{one, more}
+use Rattle.text.specs.Requests.Numbers.{single, more}
 use Rattle.text.specs.Requests.Optional.{nothing, given}
 
 optional-short : {other n : ℕ} {text : List ℕ} → Optional other text n → length text ≤ 3
@@ -13,7 +13,7 @@ optional-short nothing = omega arith
 optional-short (given r) = r .few
 
 numbers-short : {text ns : List ℕ} → Numbers text ns → length text + 1 ≤ 4 * length ns
-numbers-short (one r) = omega arith
+numbers-short (single r) = omega arith
 numbers-short (more r s) = let h = numbers-short s in simp length-append (omega arith)
 
 listed-short : {text ns : List ℕ} → FewNumbers text ns → length text ≤ 123

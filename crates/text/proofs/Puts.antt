@@ -17,7 +17,7 @@ use Rattle.text.proofs.Decimals.{decimal-low, decimal-high, decimal-sho
 pub put-nothing : (before : List ℕ) (at : ℕ) → at ≤ length before → Put before at [] 0 before at
 put-nothing before at h = record {
   short = omega arith;
-  room = omega arith;
+  inside = omega arith;
   ends = sym (add-zero at);
   is = sym (rw append-nil (take-append-drop at before));
 }
@@ -25,21 +25,21 @@ put-nothing before at h = record {
 pub put-one : (before : List ℕ) (at b : ℕ) → at + 1 ≤ length before → Put before at (b ∷ []) 1 (set before at b) (at + 1)
 put-one before at b h = record {
   short = omega arith;
-  room = h;
+  inside = h;
   ends = refl;
   is = set-split before at b (omega arith) ∙ sym (append-snoc (take at before) b (drop (suc at) before)) ∙ rw add-one;
 }
 
 module _ {before after : List ℕ} {at next : ℕ} {text : List ℕ} {bound : ℕ} (p : Put before at text bound after next) where
   head-long : length (take at before ++ text) ≡ next
-  head-long = length-append (take at before) text ∙ rw (length-take-le at before (omega (arith, p .room))) (sym (p .ends))
+  head-long = length-append (take at before) text ∙ rw (length-take-le at before (omega (arith, p .inside))) (sym (p .ends))
 
   pub put-long : length after ≡ length before
   put-long =
-      ap length (p .is) ∙ length-append (take at before ++ text) (drop next before) ∙ rw (head-long, length-drop) (omega (arith, p .ends, p .room))
+      ap length (p .is) ∙ length-append (take at before ++ text) (drop next before) ∙ rw (head-long, length-drop) (omega (arith, p .ends, p .inside))
 
   pub put-bound : {more : ℕ} → bound ≤ more → Put before at text more after next
-  put-bound h = record { short = omega (arith, p .short); room = p .room; ends = p .ends; is = p .is }
+  put-bound h = record { short = omega (arith, p .short); inside = p .inside; ends = p .ends; is = p .is }
 
   rest-kept : (n : ℕ) → drop (next + n) after ≡ drop (next + n) before
   rest-kept n =
@@ -55,7 +55,7 @@ module _ {before after : List ℕ} {at next : ℕ} {text : List ℕ} {bound : �
       let rest : drop end after ≡ drop end before = rw (q .ends) (rest-kept (length more)) in
       record {
         short = rw length-append (omega (arith, p .short, q .short));
-        room = rw length-append (omega (arith, p .ends, q .room, put-long));
+        inside = rw length-append (omega (arith, p .ends, q .inside, put-long));
         ends = rw length-append (omega (arith, p .ends, q .ends));
         is = q .is ∙ ap (λ (l : List ℕ). l ++ more ++ drop end after) head ∙ ap (λ (l : List ℕ). take at before ++ text ++ more ++ l) rest
             ∙ simp append-assoc;
@@ -70,7 +70,7 @@ pub put-high : {before mid after : List ℕ} {at last next n : ℕ} → 10 ≤ n
 put-high {n = n} h k p q =
     let s = put-join p q in
     rw (decimal-high n h) record
-    { short = omega (arith, decimal-short 4 n (omega arith), ap length (decimal-high n h)); room = s .room; ends = s .ends; is = s .is }
+    { short = omega (arith, decimal-short 4 n (omega arith), ap length (decimal-high n h)); inside = s .inside; ends = s .ends; is = s .is }
 
 pub comma-first : (i : ℕ) → i ≡ 0 → comma i ≡ []
 unfolding comma

@@ -52,7 +52,7 @@ part-seam from to text h k =
 pub seek-seam : {b : ℕ} {text : List ℕ} {at to : ℕ} → Seeks b text at to → to < length text
     → drop at text ≡ part at to text ++ b ∷ drop (to + 1) text
 seek-seam {text = text} {at = at} {to = to} s h =
-    part-seam at to text (s .from) h ∙ ap (λ (b : ℕ). part at to text ++ b ∷ drop (to + 1) text) (s .there h)
+    part-seam at to text (s .ordered) h ∙ ap (λ (b : ℕ). part at to text ++ b ∷ drop (to + 1) text) (s .there h)
 
 pub seek-last : {b : ℕ} {text : List ℕ} {at to : ℕ} → Seeks b text at to → length text ≤ to → drop at text ≡ part at to text
 seek-last {text = text} {at = at} {to = to} s h = sym (take-all (to - at) (drop at text) (rw length-drop (omega arith)))

@@ -16,8 +16,8 @@ module _ (key text : List ℕ) (at : ℕ) {to : ℕ} (key-is : drop at text ≡ 
   stands h =
       let from = at + length key in
       record {
-        ordered = ends .from;
-        within = h;
+        ordered = ends .ordered;
+        inside = h;
         is = key-is ∙ ap (λ (l : List ℕ). key ++ l) (seek-seam ends h) ∙ sym (line-flat key (part from to text) (drop (to + 1) text));
         free = ends .free;
       }
@@ -36,8 +36,8 @@ module _ {A : Type 0} {Value : List ℕ → A → Type 0} {key text : List ℕ} 
       → Takes key Value text at ok x (to + 1)
   takes {from = from} {to = to} plain s found = record {
     holds = λ e. record {
-      within = omega (arith, s .within);
-      line = record { value = part from to text; rest = drop (to + 1) text; is = s .is; means = found .holds e; follows = refl };
+      inside = omega (arith, s .inside);
+      starts = record { value = part from to text; rest = drop (to + 1) text; is = s .is; means = found .holds e; follows = refl };
     };
     fails = λ e y a. found .fails e y (subst (λ v. Value v y) (sym (is-part y a)) (a .means));
   }
@@ -49,7 +49,7 @@ module _ {A : Type 0} {Value : List ℕ → A → Type 0} {key text : List ℕ} 
 
   pub passes : {x y : A} {next : ℕ} {R : List ℕ → Type 0} → Plain Value → Taken key Value text at x next
       → Line key (λ v. Value v y) R (drop at text) → (x ≡ y) × R (drop next text)
-  passes {R = R} plain t a = let s = line-same plain (t .line) a in (s .is, subst R (s .left) (s .right))
+  passes {R = R} plain t a = let s = line-same plain (t .starts) a in (s .is, subst R (s .left) (s .right))
 
   pub refuses : {ok : Bool} {x : A} {next : ℕ} {R : List ℕ → Type 0} (y : A) → Takes key Value text at ok x next → ok ≡ false
       → Line key (λ v. Value v y) R (drop at text) → ⊥
@@ -57,4 +57,4 @@ module _ {A : Type 0} {Value : List ℕ → A → Type 0} {key text : List ℕ} 
 
   pub goes-on : {x : A} {next : ℕ} {R : List ℕ → Type 0} → Taken key Value text at x next → R (drop next text)
       → Line key (λ v. Value v x) R (drop at text)
-  goes-on {R = R} t h = line-map (λ v p. p) (λ rest e. subst R (sym e) h) (t .line)
+  goes-on {R = R} t h = line-map (λ v p. p) (λ rest e. subst R (sym e) h) (t .starts)

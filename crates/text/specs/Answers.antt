@@ -8,7 +8,7 @@
 --   Reply                    the number from the table, and what is printed beside the number 0; reply  made of its parts
 --   details number o         the lines after the first
 --   answer o                 the text
---   room o                   so many bytes are enough for it: a number takes at most five, a comma or a line feed one more
+--   roomFor o                so many bytes are enough for it: a number takes at most five, a comma or a line feed one more
 --   HasWritten o before after r   what is left and handed back: the text and its length, or nothing where out may be too short or messages are
 --                                 missing
 use mathlib.Core.Bool.{true, false}
@@ -67,10 +67,10 @@ details (suc number) o = []
 abbrev pub answer : Reply → List ℕ
 answer o = line (bytes "answer=") (decimal (o .number)) ++ details (o .number) o
 
-abbrev pub room : Reply → ℕ
-room o = 52 + o .count * (9 + 6 * o .k)
+abbrev pub roomFor : Reply → ℕ
+roomFor o = 52 + o .count * (9 + 6 * o .k)
 
 pub data HasWritten (o : Reply) (before : List ℕ) : List ℕ → ℕ → Type 0 where
-  written : room o ≤ length before → o .count * o .k ≤ length (o .messages)
+  written : roomFor o ≤ length before → o .count * o .k ≤ length (o .messages)
       → HasWritten o before (answer o ++ drop (length (answer o)) before) (length (answer o))
-  refused : (length before < room o) ⊎ (length (o .messages) < o .count * o .k) → HasWritten o before before 0
+  refused : (length before < roomFor o) ⊎ (length (o .messages) < o .count * o .k) → HasWritten o before before 0

@@ -5,15 +5,15 @@ use Prim.Native.Nat.{ℕ, zero, suc, _-_, _≤_, _<_}
 use native.Mathlib.Omega.{arith}
 use lib.ListN.{getD}
 use Rattle.text.specs.Lines.{bytes, line}
-use Rattle.text.specs.Requests.{written, Number, FewNumbers, Line, Readable}
-use Rattle.text.specs.Requests.Numbers.{one, more}
+use Rattle.text.specs.Requests.{numberOf, Number, FewNumbers, Line, Readable}
+use Rattle.text.specs.Requests.Numbers.{single, more}
 use Rattle.text.specs.Requests.Optional.{nothing}
 use Rattle.text.specs.Answers.{digits, comma, joined, messageLines, reply, details, answer}
 
 -- a number of one digit
 digit : (b : ℕ) → 48 ≤ b → b ≤ 57 → Number (b ∷ []) (b - 48)
-unfolding written
-digit b low high = record { some = omega arith; few = omega arith; digits = first; value = omega arith; small = omega arith }
+unfolding numberOf
+digit b low high = record { some = omega arith; few = omega arith; are-digits = first; is = omega arith; small = omega arith }
   where
     first : (i : ℕ) → i < 1 → (48 ≤ getD (b ∷ []) i 0) × (getD (b ∷ []) i 0 ≤ 57)
     first zero h = (low, high)
@@ -26,7 +26,7 @@ three : FewNumbers (bytes "1,2,3") (1 ∷ 2 ∷ 3 ∷ [])
 three =
     record {
       numbers = more (digit 49 (omega arith) (omega arith)) (more (digit 50 (omega arith) (omega arith))
-          (one (digit 51 (omega arith) (omega arith))));
+          (single (digit 51 (omega arith) (omega arith))));
       few = omega arith;
     }
 

@@ -29,8 +29,8 @@ abbrev pub Any : List ℕ → Type 0
 Any text = Unit {0}
 
 pub record Seeks (b : ℕ) (text : List ℕ) (at to : ℕ) : Type 0 where
-  pub from : at ≤ to
-  pub within : to ≤ length text
+  pub ordered : at ≤ to
+  pub inside : to ≤ length text
   pub free : Free b (part at to text)
   pub there : to < length text → getD text to 0 ≡ b
 
@@ -43,16 +43,16 @@ pub record Meant {A : Type 0} (ok : Bool) (x : A) (P : A → Type 0) : Type 0 wh
   pub fails : ok ≡ false → (y : A) → P y → ⊥
 
 pub record HoldsNumbers (xs : List ℕ) (count : ℕ) (items : List ℕ) : Type 0 where
-  pub counted : count ≡ length xs
-  pub padded : items ≡ padded xs
+  pub count-is : count ≡ length xs
+  pub items-are : items ≡ padded xs
 
 pub record ReadsNumbers (text : List ℕ) (ok : Bool) (count : ℕ) (items : List ℕ) : Type 0 where
   pub meant : Meant ok (take count items) (FewNumbers text)
-  pub kept : ok ≡ true → HoldsNumbers (take count items) count items
+  pub held : ok ≡ true → HoldsNumbers (take count items) count items
 
 pub record Stands (key text : List ℕ) (at from to : ℕ) : Type 0 where
   pub ordered : from ≤ to
-  pub within : to < length text
+  pub inside : to < length text
   pub is : drop at text ≡ line key (part from to text) ++ drop (to + 1) text
   pub free : Free 10 (part from to text)
 
@@ -61,8 +61,8 @@ pub record Found (key text : List ℕ) (at : ℕ) (ok : Bool) (from to : ℕ) : 
   pub fails : ok ≡ false → Line key Any Any (drop at text) → ⊥
 
 pub record Taken {A : Type 0} (key : List ℕ) (Value : List ℕ → A → Type 0) (text : List ℕ) (at : ℕ) (x : A) (next : ℕ) : Type 0 where
-  pub within : next ≤ length text
-  pub line : Line key (λ v. Value v x) (λ rest. rest ≡ drop next text) (drop at text)
+  pub inside : next ≤ length text
+  pub starts : Line key (λ v. Value v x) (λ rest. rest ≡ drop next text) (drop at text)
 
 pub record Takes {A : Type 0} (key : List ℕ) (Value : List ℕ → A → Type 0) (text : List ℕ) (at : ℕ) (ok : Bool) (x : A) (next : ℕ) : Type 0 where
   pub holds : ok ≡ true → Taken key Value text at x next
@@ -70,4 +70,4 @@ pub record Takes {A : Type 0} (key : List ℕ) (Value : List ℕ → A → Type 
 
 pub record TakesList (key text : List ℕ) (at : ℕ) (ok : Bool) (count : ℕ) (items : List ℕ) (next : ℕ) : Type 0 where
   pub takes : Takes key FewNumbers text at ok (take count items) next
-  pub kept : ok ≡ true → HoldsNumbers (take count items) count items
+  pub held : ok ≡ true → HoldsNumbers (take count items) count items

@@ -1,5 +1,5 @@
 -- Requests: which texts can be read, and what they mean. Rules: section 17.
---   written text i           the number that the first i bytes write, decimal digits
+--   numberOf text i          the number that the first i bytes write, decimal digits
 --   Number text n            one to three digits, leading zeros allowed, that write n; n is at most 255
 --   Numbers text ns          numbers with commas between them, one at least
 --   FewNumbers text ns       the same, at most as many as there can be points
@@ -22,19 +22,19 @@ use Rattle.poly.specs.Limits.{fieldMost}
 use Rattle.text.specs.Lines.{bytes, line}
 use Rattle.text.specs.declared.Request.{Request}
 
-unfoldable pub written : List ℕ → ℕ → ℕ
-written text zero = 0
-written text (suc i) = written text i * 10 + (getD text i 0 - 48)
+unfoldable pub numberOf : List ℕ → ℕ → ℕ
+numberOf text zero = 0
+numberOf text (suc i) = numberOf text i * 10 + (getD text i 0 - 48)
 
 pub record Number (text : List ℕ) (n : ℕ) : Type 0 where
   pub some : 1 ≤ length text
   pub few : length text ≤ 3
-  pub digits : (i : ℕ) → i < length text → (48 ≤ getD text i 0) × (getD text i 0 ≤ 57)
-  pub value : n ≡ written text (length text)
+  pub are-digits : (i : ℕ) → i < length text → (48 ≤ getD text i 0) × (getD text i 0 ≤ 57)
+  pub is : n ≡ numberOf text (length text)
   pub small : n ≤ 255
 
 pub data Numbers : List ℕ → List ℕ → Type 0 where
-  one : {text : List ℕ} {n : ℕ} → Number text n → Numbers text (n ∷ [])
+  single : {text : List ℕ} {n : ℕ} → Number text n → Numbers text (n ∷ [])
   more : {first rest : List ℕ} {n : ℕ} {ns : List ℕ} → Number first n → Numbers rest ns → Numbers (first ++ (bytes "," ++ rest)) (n ∷ ns)
 
 pub record FewNumbers (text ns : List ℕ) : Type 0 where

@@ -8,6 +8,6 @@ use lib.ListN.{length, take, drop}
 
 pub record Put (before : List ℕ) (at : ℕ) (text : List ℕ) (bound : ℕ) (after : List ℕ) (next : ℕ) : Type 0 where
   pub short : length text ≤ bound
-  pub room : at + length text ≤ length before
+  pub inside : at + length text ≤ length before
   pub ends : next ≡ at + length text
   pub is : after ≡ take at before ++ text ++ drop next before

@@ -192,7 +192,7 @@ slice-aggregate-number-line-2 : tie.Need-slice-aggregate-number-line-2
 slice-aggregate-number-line-2 c = search needs
 
 number-line-requires-2 : tie.Need-number-line-requires-2
-number-line-requires-2 c κs = field-taken (c .before) .within
+number-line-requires-2 c κs = field-taken (c .before) .inside
 
 unread-requires-2 : tie.Need-unread-requires-2
 unread-requires-2 c κs = search needs
@@ -206,7 +206,7 @@ slice-aggregate-optional-line : tie.Need-slice-aggregate-optional-line
 slice-aggregate-optional-line c = search needs
 
 optional-line-requires : tie.Need-optional-line-requires
-optional-line-requires c κs = k-taken (c .before) .within
+optional-line-requires c κs = k-taken (c .before) .inside
 
 unread-requires-3 : tie.Need-unread-requires-3
 unread-requires-3 c κs = search needs
@@ -220,7 +220,7 @@ slice-aggregate-optional-line-2 : tie.Need-slice-aggregate-optional-line-2
 slice-aggregate-optional-line-2 c = search needs
 
 optional-line-requires-2 : tie.Need-optional-line-requires-2
-optional-line-requires-2 c κs = m-taken (c .before) .within
+optional-line-requires-2 c κs = m-taken (c .before) .inside
 
 unread-requires-4 : tie.Need-unread-requires-4
 unread-requires-4 c κs = search needs
@@ -234,7 +234,7 @@ slice-aggregate-number-line-3 : tie.Need-slice-aggregate-number-line-3
 slice-aggregate-number-line-3 c = search needs
 
 number-line-requires-3 : tie.Need-number-line-requires-3
-number-line-requires-3 c κs = l-taken (c .before) .within
+number-line-requires-3 c κs = l-taken (c .before) .inside
 
 unread-requires-5 : tie.Need-unread-requires-5
 unread-requires-5 c κs = search needs
@@ -248,7 +248,7 @@ slice-aggregate-numbers-line : tie.Need-slice-aggregate-numbers-line
 slice-aggregate-numbers-line c = search needs
 
 numbers-line-requires : tie.Need-numbers-line-requires
-numbers-line-requires c κs = t-taken (c .before) .within
+numbers-line-requires c κs = t-taken (c .before) .inside
 
 unread-requires-6 : tie.Need-unread-requires-6
 unread-requires-6 c κs = search needs
@@ -263,7 +263,7 @@ slice-aggregate-numbers-line-2 : tie.Need-slice-aggregate-numbers-line-2
 slice-aggregate-numbers-line-2 c = search needs
 
 numbers-line-requires-2 : tie.Need-numbers-line-requires-2
-numbers-line-requires-2 c κs = points-taken (c .before) .within
+numbers-line-requires-2 c κs = points-taken (c .before) .inside
 
 unread-requires-7 : tie.Need-unread-requires-7
 unread-requires-7 c κs = search needs
@@ -284,8 +284,8 @@ returns-8 c = let d = c .before .before .before in
 returns-9 : tie.Need-returns-9
 returns-9 c =
     let word = c .before .before .before .before in
-    let ps = points word .before .before .numbers-line .ensures .kept (not-false _ (points word .if6 .left)) in
-    let ws = word .before .before .numbers-line2 .ensures .kept (not-false _ (word .if7 .left)) in
+    let ps = points word .before .before .numbers-line .ensures .held (not-false _ (points word .if6 .left)) in
+    let ws = word .before .before .numbers-line2 .ensures .held (not-false _ (word .if7 .left)) in
     subst (HasRead (text₇ word)) (λ i. record {
       ok = true;
       field = meaning word .field;
@@ -293,10 +293,10 @@ returns-9 c =
       m = meaning word .m;
       l = meaning word .l;
       t = meaning word .t;
-      n = sym (ps .counted) i;
-      points = sym (ps .padded) i;
-      count = sym (ws .counted) i;
-      word = sym (ws .padded) i;
+      n = sym (ps .count-is) i;
+      points = sym (ps .items-are) i;
+      count = sym (ws .count-is) i;
+      word = sym (ws .items-are) i;
     }) (readable (meaning word) (whole word (drop-of-length-le (text₇ word) (c .before .before .if8 .left))))
 
 pub read-spec : {M : Type 1} → statement M

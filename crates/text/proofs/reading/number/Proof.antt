@@ -12,14 +12,14 @@ use borrow.Author.Count.{below-more}
 use borrow.Author.Tests.{ltb-true, ltb-false}
 use borrow.Author.Needs.{needs}
 use lib.ListN.{length, getD}
-use Rattle.text.specs.Requests.{written, Number}
+use Rattle.text.specs.Requests.{numberOf, Number}
 use Rattle.text.specs.Reading.{Meant}
 use Rattle.text.proofs.reading.number.Statement.{statement}
 use Rattle.text.proofs.reading.number.Tie as tie
 
 abbrev Inv-loop : tie.InvT-loop
 Inv-loop text value₀ i₀ value i =
-    (i ≤ length text) × (value < 10 ^ i) × (value ≡ written text i) × ((k : ℕ) → k < i → (48 ≤ getD text k 0) × (getD text k 0 ≤ 57))
+    (i ≤ length text) × (value < 10 ^ i) × (value ≡ numberOf text i) × ((k : ℕ) → k < i → (48 ≤ getD text k 0) × (getD text k 0 ≤ 57))
 
 abbrev μ-loop : tie.MeasureT-loop
 μ-loop text value₀ i₀ value i = length text - i
@@ -33,7 +33,7 @@ low : (i value : ℕ) → i < 3 → value < 10 ^ i → value < 100
 low i value h k = omega (arith, pow-le-pow-right {n = 10} (omega arith) {i = i} {j = 2} (omega arith))
 
 whole : (c : tie.After-loop Inv-loop μ-loop) → let text =
-    c .before .before .before .before .args .text .now in c .before .loop .value ≡ written text (length text)
+    c .before .before .before .before .args .text .now in c .before .loop .value ≡ numberOf text (length text)
 whole c =
     let n : c .before .loop .i ≡ length (c .before .before .before .before .args .text .now) = omega arith in
     rw n at (c .before .loop .inv .2)
@@ -45,7 +45,7 @@ returns : tie.Need-returns Inv-loop μ-loop
 returns c = none (λ n r. ⊎-elim (λ w. omega (arith, r .some)) (λ w. omega (arith, ltb-true, r .few)) (c .if1 .came))
 
 loop-holds : tie.Need-loop-holds Inv-loop μ-loop
-unfolding written
+unfolding numberOf
 loop-holds c = (omega arith, omega arith, refl, λ k h. absurd (omega arith))
 
 shared-slice-read-b : tie.Need-shared-slice-read-b Inv-loop μ-loop
@@ -54,7 +54,7 @@ shared-slice-read-b c = search needs
 returns-2 : tie.Need-returns-2 Inv-loop μ-loop
 returns-2 c =
     let l = c .before .before in
-    none (λ n r. let d = r .digits (l .before .loop .i) (l .loop-test .taken) in
+    none (λ n r. let d = r .are-digits (l .before .loop .i) (l .loop-test .taken) in
     ⊎-elim (λ w. omega arith) (λ w. omega (arith, ltb-true)) (c .if3 .came))
 
 mul-value : tie.Need-mul-value Inv-loop μ-loop
@@ -73,7 +73,7 @@ loop-less : tie.Need-loop-less Inv-loop μ-loop
 loop-less c = search needs
 
 loop-again : tie.Need-loop-again Inv-loop μ-loop
-unfolding written
+unfolding numberOf
 loop-again c =
     let l = c .before .before .before in
     let i = l .before .loop .inv in (
@@ -84,7 +84,7 @@ loop-again c =
     )
 
 returns-3 : tie.Need-returns-3 Inv-loop μ-loop
-returns-3 c = none (λ n r. omega (arith, r .small, r .value ∙ sym (whole (c .before))))
+returns-3 c = none (λ n r. omega (arith, r .small, r .is ∙ sym (whole (c .before))))
 
 cast-t18 : tie.Need-cast-t18 Inv-loop μ-loop
 cast-t18 c = search needs
@@ -96,8 +96,8 @@ returns-4 c =
       holds = λ _. record {
         some = omega arith;
         few = omega (arith, ltb-false);
-        digits = λ i h. l .loop .inv .3 i (omega arith);
-        value = whole (c .before);
+        are-digits = λ i h. l .loop .inv .3 i (omega arith);
+        is = whole (c .before);
         small = omega arith;
       };
       fails = λ e. absurd (true≢false e);

@@ -18,7 +18,7 @@ line-at-requires c κs = search needs
 
 returns : tie.Need-returns
 returns c =
-    record { takes = takes-none _ 0 (c .before .before .line-at .ensures .fails (not-true _ (c .if1 .taken))); kept = λ e. absurd (false≢true e) }
+    record { takes = takes-none _ 0 (c .before .before .line-at .ensures .fails (not-true _ (c .if1 .taken))); held = λ e. absurd (false≢true e) }
 
 sub-numbers : tie.Need-sub-numbers
 sub-numbers c = let s = stands c in omega arith
@@ -38,7 +38,7 @@ add-next c = let s = stands (c .before .before .before) in omega arith
 returns-2 : tie.Need-returns-2
 returns-2 c =
     let n = c .before in
-    record { takes = takes listed-plain (stands (n .before .before)) (n .numbers .ensures .meant); kept = n .numbers .ensures .kept }
+    record { takes = takes listed-plain (stands (n .before .before)) (n .numbers .ensures .meant); held = n .numbers .ensures .held }
 
 pub numbers-line-spec : {M : Type 1} → statement M
 numbers-line-spec =

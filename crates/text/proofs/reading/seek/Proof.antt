@@ -24,7 +24,7 @@ shared-slice-read-if1 c = search needs
 returns : tie.Need-returns Inv-loop μ-loop
 returns c =
     let l = c .before .before .before in
-    record { from = omega arith; within = omega arith; free = part-free _ _ _ _ (omega arith) (l .loop .inv .2); there = λ _. c .if1 .taken }
+    record { ordered = omega arith; inside = omega arith; free = part-free _ _ _ _ (omega arith) (l .loop .inv .2); there = λ _. c .if1 .taken }
 
 add-to : tie.Need-add-to Inv-loop μ-loop
 add-to c = search needs
@@ -38,7 +38,12 @@ loop-again c = (omega arith, omega arith, below-more _ _ (c .before .before .bef
 returns-2 : tie.Need-returns-2 Inv-loop μ-loop
 returns-2 c =
     let l = c .before in
-    record { from = omega arith; within = omega arith; free = part-free _ _ _ _ (omega arith) (l .loop .inv .2); there = λ h. absurd (omega arith) }
+    record {
+      ordered = omega arith;
+      inside = omega arith;
+      free = part-free _ _ _ _ (omega arith) (l .loop .inv .2);
+      there = λ h. absurd (omega arith);
+    }
 
 pub seek-spec : {M : Type 1} → statement M
 seek-spec =
