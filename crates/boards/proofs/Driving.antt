@@ -1,54 +1,54 @@
 -- Demand 3 holds of the calls too: calls on lent bytes are a start and turns of the jobs, since what a call writes into a note is what
 -- the next one reads there.
 use mathlib.Core.Path.{_≡_, refl, sym, ap, _∙_}
-use mathlib.Core.List.{List, [], _∷_}
-use Prim.Native.Nat.{ℕ, _≤_}
+use mathlib.Core.Logic.{inr}
+use mathlib.Core.List.{List}
+use Prim.Native.Nat.{ℕ, _+_, _<_, _≤_}
 use native.Mathlib.Omega.{arith}
 use lib.ListN.{length}
-use lib.Seq.{length-sets}
-use Rattle.rows.specs.declared.Note.{Note}
-use Rattle.rows.specs.Demands.{Request, Driven, Pause}
+use borrow.Author.Needs.{needs}
+use Rattle.poly.proofs.TableLaws.{first-passed}
+use Rattle.rows.specs.Jobs.{HasTurned}
+use Rattle.rows.specs.Demands.{Request, Begun, Driven, Pause}
+use Rattle.rows.specs.declared.Started.{Started}
+use Rattle.rows.specs.declared.Turned.{Turned}
 use Rattle.rows.proofs.Demands.{demand-3}
-use Rattle.boards.specs.declared.Back.{Back}
 use Rattle.boards.specs.Lent.{noteBytes, backBytes, noteOf, noteInto, backInto, updatesOf}
-use Rattle.boards.specs.Calls.{StartCall, TurnCall, DrivenCalls}
-use Rattle.boards.proofs.Refusing.{start-refuses}
+use Rattle.boards.specs.Calls.{startCallTable, StartCall, DrivenCalls}
+use Rattle.boards.proofs.LentLaws.{note-kept, note-long, updates-kept}
+use Rattle.boards.proofs.Calling.{turn-job}
 
--- what is written as a note is read as that note
-pub note-kept : (note : Note) (xs : List ℕ) → noteBytes ≤ length xs → noteOf (noteInto note xs) ≡ note
-note-kept note [] h = absurd (omega arith)
-note-kept note (a ∷ []) h = absurd (omega arith)
-note-kept note (a ∷ b ∷ []) h = absurd (omega arith)
-note-kept note (a ∷ b ∷ c ∷ []) h = absurd (omega arith)
-note-kept note (a ∷ b ∷ c ∷ d ∷ []) h = absurd (omega arith)
-note-kept note (a ∷ b ∷ c ∷ d ∷ e ∷ []) h = absurd (omega arith)
-note-kept note (a ∷ b ∷ c ∷ d ∷ e ∷ f ∷ xs) h = refl
+module _ {q : Request} where
+  start-driven : (note : List ℕ) {rows rows′ note′ : List ℕ} {job : Started} → noteBytes ≤ length note → Begun q rows rows′ job
+      → note′ ≡ noteInto (job .note) note → (noteBytes ≤ length note′) × Driven q 0 rows′ (noteOf note′) 0
+  start-driven note {job = job} long begun e =
+      (rw (e, note-long (job .note) note) long, rw (ap noteOf e ∙ note-kept (job .note) note long) (Driven.started begun))
 
--- and the updates that are handed back are read as those
-updates-kept : (back : Back) (xs : List ℕ) → backBytes ≤ length xs → updatesOf (backInto back xs) ≡ back .updates
-updates-kept back [] h = absurd (omega arith)
-updates-kept back (a ∷ []) h = absurd (omega arith)
-updates-kept back (a ∷ b ∷ xs) h = omega arith
+  turn-driven : (note back : List ℕ) {sum made allowance : ℕ} {rows rows′ note′ back′ : List ℕ} {job : Turned} → noteBytes ≤ length note
+      → backBytes ≤ length back → Driven q sum rows (noteOf note) made → HasTurned (noteOf note) allowance rows rows′ job
+      → note′ ≡ noteInto (job .note) note → back′ ≡ backInto (record { updates = job .updates; weight = 0; height = 0; count = 0 }) back
+      → (noteBytes ≤ length note′) × Driven q (sum + allowance) rows′ (noteOf note′) (made + updatesOf back′)
+  turn-driven note back {allowance = allowance} {job = job} long room driven has e b =
+      let made = ap updatesOf b ∙ updates-kept (record { updates = job .updates; weight = 0; height = 0; count = 0 }) back room in
+      let next = ap noteOf e ∙ note-kept (job .note) note long in
+      (rw (e, note-long (job .note) note) long, rw (next, made) (Driven.turned allowance driven has))
 
-note-room : (note : Note) (xs : List ℕ) → length (noteInto note xs) ≡ length xs
-note-room note xs = length-sets xs 0 (note .p ∷ note .n ∷ note .k ∷ note .m ∷ note .l ∷ note .r ∷ [])
+  start-long : {rows rows′ note note′ : List ℕ} → StartCall (q .p) (q .points) (q .word) (q .k) (q .m) (q .l) rows rows′ note note′ 0
+      → noteBytes ≤ length note
+  start-long {rows} {note = note} call =
+      let table = startCallTable (q .p) (q .points) (q .word) (q .k) (q .m) (q .l) rows note in
+      let fits : length note < noteBytes → ⊥ = λ h. first-passed table (search needs) (call .first) refl .1 .1 .1 .1 .1 .1 .1 .0 (inr h) in
+      omega arith
 
-pub calls-driven : {q : Request} {sum made : ℕ} {rows note : List ℕ} → DrivenCalls q sum rows note made
-    → (noteBytes ≤ length note) × Driven q sum rows (noteOf note) made
-calls-driven (DrivenCalls.started (StartCall.short-note h f r n)) = absurd (start-refuses f refl)
-calls-driven (DrivenCalls.started {note = note} (StartCall.done x job has e n)) = (
-  rw (n, note-room (job .note) note) x,
-  rw (ap noteOf n ∙ note-kept (job .note) note x) (Driven.started (has, sym e)),
-)
-calls-driven (DrivenCalls.turned allowance so-far long (TurnCall.short-note h e n r b)) =
-    let room = calls-driven so-far .0 in absurd (omega arith)
-calls-driven (DrivenCalls.turned allowance so-far long (TurnCall.short-back x h f n r b)) = absurd (omega arith)
-calls-driven (DrivenCalls.turned {note = note} {back = back} allowance so-far long (TurnCall.done x y job has e n b)) =
-    let made = ap updatesOf b ∙ updates-kept (record { updates = job .updates; weight = 0; height = 0; count = 0 }) back y in
-    let next = ap noteOf n ∙ note-kept (job .note) note x in (
-      rw (n, note-room (job .note) note) x,
-      rw (next, made) (Driven.turned allowance (calls-driven so-far .1) has),
-    )
+  pub calls-driven : {sum made : ℕ} {rows note : List ℕ} → DrivenCalls q sum rows note made
+      → (noteBytes ≤ length note) × Driven q sum rows (noteOf note) made
+  calls-driven (DrivenCalls.started {note = note} call) =
+      let (job, has, e, n) = call .done refl in
+      start-driven note (start-long call) (has, sym e) n
+  calls-driven (DrivenCalls.turned {note = note} {back = back} allowance so-far room call) =
+      let (long, driven) = calls-driven so-far in
+      let (job, has, e, n, b) = turn-job long room call in
+      turn-driven note back long room driven has n b
 
 -- so what demand 3 says of every pause holds at every pause of the calls
 pub calls-pause : {q : Request} {sum made : ℕ} {rows note : List ℕ} → DrivenCalls q sum rows note made → Pause q sum rows (noteOf note) made

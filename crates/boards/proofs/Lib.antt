@@ -1,3 +1,5 @@
+pub mod LentLaws
+pub mod Refusing
+pub mod Calling
 pub mod Determined
 pub mod Driving
-pub mod Refusing

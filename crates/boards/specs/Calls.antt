@@ -1,55 +1,97 @@
 -- What each call from C leaves. A primed name is what the call leaves in the bytes of that name.
---   StartCall, TurnCall, FinishCall, ListCall    in these cases:
---     short-note    the lent note is too short. Start gives the first refusal of its table, with no room for the rows: the latest is 9, and
---                   always applies. A turn and a finish cannot read the note: 9, and zeros in back. Nothing else is touched
---     short-back    the lent back is too short: the first refusal of the job's table, with no room, as above. Nothing is touched
---     done          what the job's own contract says, with the job's struct in the lent bytes; what a job does not hand back is zero there
+--   startCallTable, turnCallTable, finishCallTable, listCallTable    the refusals of each call, in order: its job's, where 9 also says that the
+--                   lent note or back is too short. A turn and a finish first of all need the note that they are to read: 9 without it
+--   StartCall, TurnCall, FinishCall, ListCall    the number by the call's table, and:
+--     done          if none of its refusals applies: what the job's own contract says, with the job's struct in the lent bytes; what a job does
+--                   not hand back is zero there
+--     refused       if one does: every byte is as it was, but for zeros in back, and in the note of a start, where there is room for them
 --   DrivenCalls     a start that is answered with 0, then any number of turns, each on the bytes that the last call left, with room in back
 -- Encode hands back its number alone: its call has the job's own contract.
 use mathlib.Core.Path.{_≡_}
-use mathlib.Core.List.{List, []}
-use Prim.Native.Nat.{ℕ, _+_, _<_, _≤_}
+use mathlib.Core.Logic.{_⊎_}
+use mathlib.Core.List.{List, [], _∷_, _++_}
+use Prim.Native.Nat.{ℕ, suc, _+_, _*_, _<_, _≤_}
 use lib.ListN.{length}
-use Rattle.poly.specs.Table.{First}
-use Rattle.rows.specs.Jobs.{HasStarted, HasTurned, HasFinished, startTable, turnTable, finishTable}
+use Rattle.poly.specs.Limits.{workingRoom}
+use Rattle.poly.specs.Table.{Refusal, First, TooShort}
+use Rattle.rows.specs.Bytes.{shape, curveBytes, rowsBytes}
+use Rattle.rows.specs.Jobs.{BadNote, shapeOf, AsLeft, requestTable, HasStarted, HasTurned, HasFinished}
 use Rattle.rows.specs.Demands.{Request}
 use Rattle.rows.specs.declared.Started.{Started}
 use Rattle.rows.specs.declared.Turned.{Turned}
 use Rattle.rows.specs.declared.Finished.{Finished}
-use Rattle.near.specs.Job.{HasListed, listTable}
+use Rattle.near.specs.Job.{HasListed}
 use Rattle.near.specs.declared.Near.{Near}
 use Rattle.boards.specs.Lent.{noteBytes, backBytes, noteOf, noteInto, backInto, updatesOf, Cleared}
 
-pub data StartCall (p : ℕ) (points word : List ℕ) (k m l : ℕ) (rows rows′ note note′ : List ℕ) (number : ℕ) : Type 0 where
-  short-note : length note < noteBytes → First (startTable p points word k m l []) number → rows′ ≡ rows → note′ ≡ note
-      → StartCall p points word k m l rows rows′ note note′ number
-  done : noteBytes ≤ length note → (job : Started) → HasStarted p points word k m l rows rows′ job → number ≡ job .number
-      → note′ ≡ noteInto (job .note) note → StartCall p points word k m l rows rows′ note note′ number
+-- start
 
-pub data TurnCall (allowance : ℕ) (note note′ rows rows′ back back′ : List ℕ) (number : ℕ) : Type 0 where
-  short-note : length note < noteBytes → number ≡ 9 → note′ ≡ note → rows′ ≡ rows → Cleared back back′
-      → TurnCall allowance note note′ rows rows′ back back′ number
-  short-back : noteBytes ≤ length note → length back < backBytes → First (turnTable (noteOf note) []) number → note′ ≡ note → rows′ ≡ rows
-      → back′ ≡ back → TurnCall allowance note note′ rows rows′ back back′ number
-  done : noteBytes ≤ length note → backBytes ≤ length back → (job : Turned) → HasTurned (noteOf note) allowance rows rows′ job → number ≡ job .number
-      → note′ ≡ noteInto (job .note) note → back′ ≡ backInto (record { updates = job .updates; weight = 0; height = 0; count = 0 }) back
-      → TurnCall allowance note note′ rows rows′ back back′ number
+abbrev pub startCallTable : ℕ → List ℕ → List ℕ → ℕ → ℕ → ℕ → List ℕ → List ℕ → List Refusal
+startCallTable p points word k m l rows note =
+    requestTable p points word k m l ++
+    record { number = 9; applies = TooShort (rowsBytes (shape p (length points) k m l)) rows ⊎ TooShort noteBytes note } ∷
+    []
 
-pub data FinishCall (note rows curve curve′ back back′ : List ℕ) (number : ℕ) : Type 0 where
-  short-note : length note < noteBytes → number ≡ 9 → curve′ ≡ curve → Cleared back back′ → FinishCall note rows curve curve′ back back′ number
-  short-back : noteBytes ≤ length note → length back < backBytes → First (finishTable (noteOf note) rows []) number → curve′ ≡ curve
-      → back′ ≡ back → FinishCall note rows curve curve′ back back′ number
-  done : noteBytes ≤ length note → backBytes ≤ length back → (job : Finished) → HasFinished (noteOf note) rows curve curve′ job
-      → number ≡ job .number
-      → back′ ≡ backInto (record { updates = 0; weight = job .weight; height = job .height; count = 0 }) back
-      → FinishCall note rows curve curve′ back back′ number
+pub record StartCall (p : ℕ) (points word : List ℕ) (k m l : ℕ) (rows rows′ note note′ : List ℕ) (number : ℕ) : Type 0 where
+  pub first : First (startCallTable p points word k m l rows note) number
+  pub done : number ≡ 0 → (job : Started) × HasStarted p points word k m l rows rows′ job × (number ≡ job .number)
+      × (note′ ≡ noteInto (job .note) note)
+  pub refused : (number ≡ 0 → ⊥) → (rows′ ≡ rows) × Cleared noteBytes note note′
 
-pub data ListCall (p : ℕ) (points word : List ℕ) (k m l t : ℕ) (room room′ messages messages′ back back′ : List ℕ) (number : ℕ) : Type 0 where
-  short-back : length back < backBytes → First (listTable p points word k m l t [] []) number → room′ ≡ room → messages′ ≡ messages → back′ ≡ back
-      → ListCall p points word k m l t room room′ messages messages′ back back′ number
-  done : backBytes ≤ length back → (job : Near) → HasListed p points word k m l t room room′ messages messages′ job → number ≡ job .number
-      → back′ ≡ backInto (record { updates = job .updates; weight = job .weight; height = 0; count = job .count }) back
-      → ListCall p points word k m l t room room′ messages messages′ back back′ number
+-- turn: its number is that of the entry, unless the late 11 comes
+
+abbrev pub turnCallTable : List ℕ → List ℕ → List ℕ → List Refusal
+turnCallTable note rows back =
+    record { number = 9; applies = TooShort noteBytes note } ∷
+    record { number = 10; applies = BadNote (noteOf note) } ∷
+    record { number = 9; applies = TooShort (rowsBytes (shapeOf (noteOf note))) rows ⊎ TooShort backBytes back } ∷
+    record { number = 11; applies = AsLeft (shapeOf (noteOf note)) (noteOf note .r) rows → ⊥ } ∷
+    []
+
+pub record TurnCall (allowance : ℕ) (note note′ rows rows′ back back′ : List ℕ) (number : ℕ) : Type 0 where
+  pub entry : ℕ
+  pub first : First (turnCallTable note rows back) entry
+  pub done : entry ≡ 0 → (job : Turned) × HasTurned (noteOf note) allowance rows rows′ job × (number ≡ job .number)
+      × (note′ ≡ noteInto (job .note) note) × (back′ ≡ backInto (record { updates = job .updates; weight = 0; height = 0; count = 0 }) back)
+  pub refused : (entry ≡ 0 → ⊥) → (number ≡ entry) × (note′ ≡ note) × (rows′ ≡ rows) × Cleared backBytes back back′
+
+-- finish
+
+abbrev pub finishCallTable : List ℕ → List ℕ → List ℕ → List ℕ → List Refusal
+finishCallTable note rows curve back =
+    record { number = 9; applies = TooShort noteBytes note } ∷
+    record { number = 10; applies = BadNote (noteOf note) } ∷
+    record {
+      number = 9;
+      applies = (TooShort (rowsBytes (shapeOf (noteOf note))) rows ⊎ TooShort (curveBytes (shapeOf (noteOf note))) curve) ⊎ TooShort backBytes back;
+    } ∷
+    record { number = 12; applies = noteOf note .r < suc (noteOf note .l) } ∷
+    record { number = 11; applies = AsLeft (shapeOf (noteOf note)) (noteOf note .r) rows → ⊥ } ∷
+    []
+
+pub record FinishCall (note rows curve curve′ back back′ : List ℕ) (number : ℕ) : Type 0 where
+  pub first : First (finishCallTable note rows curve back) number
+  pub done : number ≡ 0 → (job : Finished) × HasFinished (noteOf note) rows curve curve′ job × (number ≡ job .number)
+      × (back′ ≡ backInto (record { updates = 0; weight = job .weight; height = job .height; count = 0 }) back)
+  pub refused : (number ≡ 0 → ⊥) → (curve′ ≡ curve) × Cleared backBytes back back′
+
+-- list: its number is that of the entry, unless 13 comes
+
+abbrev pub listCallTable : ℕ → List ℕ → List ℕ → ℕ → ℕ → ℕ → ℕ → List ℕ → List ℕ → List ℕ → List Refusal
+listCallTable p points word k m l t room messages back =
+    requestTable p points word k m l ++
+    record { number = 8; applies = (t < 1) ⊎ (length points < t) } ∷
+    record { number = 9; applies = (TooShort workingRoom room ⊎ TooShort (l * k) messages) ⊎ TooShort backBytes back } ∷
+    []
+
+pub record ListCall (p : ℕ) (points word : List ℕ) (k m l t : ℕ) (room room′ messages messages′ back back′ : List ℕ) (number : ℕ) : Type 0 where
+  pub entry : ℕ
+  pub first : First (listCallTable p points word k m l t room messages back) entry
+  pub done : entry ≡ 0 → (job : Near) × HasListed p points word k m l t room room′ messages messages′ job × (number ≡ job .number)
+      × (back′ ≡ backInto (record { updates = job .updates; weight = job .weight; height = 0; count = job .count }) back)
+  pub refused : (entry ≡ 0 → ⊥) → (number ≡ entry) × (room′ ≡ room) × (messages′ ≡ messages) × Cleared backBytes back back′
+
+-- demand 3
 
 -- the allowances so far added up, the rows' and the note's bytes, and the updates so far added up
 pub data DrivenCalls (q : Request) : ℕ → List ℕ → List ℕ → ℕ → Type 0 where

@@ -4,12 +4,13 @@
 --   noteInto note xs        xs with the note in its first bytes
 --   backInto back xs        xs with what is handed back in its first bytes: the updates, low byte first, the weight, the height, the count
 --   updatesOf xs            the updates in the first bytes of xs
---   Cleared xs ys           ys is xs with five zeros in its first bytes, or xs itself where these do not fit
+--   Cleared size xs ys      ys is xs with its first `size` bytes zero, or xs itself where it has fewer
 use mathlib.Core.Path.{_≡_}
 use mathlib.Core.List.{List, [], _∷_}
 use Prim.Native.Nat.{ℕ, _+_, _*_, _/_, _%_, _<_, _≤_}
 use lib.ListN.{length, getD}
 use lib.Seq.{sets}
+use Rattle.poly.specs.Lent.{Zeroed}
 use Rattle.rows.specs.declared.Note.{Note}
 use Rattle.boards.specs.declared.Back.{Back}
 
@@ -31,6 +32,6 @@ backInto back xs = sets xs 0 (back .updates % 256 ∷ back .updates / 256 ∷ ba
 abbrev pub updatesOf : List ℕ → ℕ
 updatesOf xs = getD xs 0 0 + 256 * getD xs 1 0
 
-pub data Cleared (xs ys : List ℕ) : Type 0 where
-  no-room : length xs < backBytes → ys ≡ xs → Cleared xs ys
-  zeros : backBytes ≤ length xs → ys ≡ backInto (record { updates = 0; weight = 0; height = 0; count = 0 }) xs → Cleared xs ys
+pub record Cleared (size : ℕ) (xs ys : List ℕ) : Type 0 where
+  pub short : length xs < size → ys ≡ xs
+  pub zeroed : size ≤ length xs → Zeroed size xs ys

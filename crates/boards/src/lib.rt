@@ -60,7 +60,7 @@ fn write_back(bytes: &mut [u8], back: Back)
 
 // Five zeros where there is room for them: nothing of an earlier call is left to be taken for this one's.
 fn clear_back(bytes: &mut [u8])
-    ensures { λ _. ⌜ Cleared (now (bytes .entry)) (now (bytes .exit)) ⌝ }
+    ensures { λ _. ⌜ Cleared backBytes (now (bytes .entry)) (now (bytes .exit)) ⌝ }
 {
     if bytes.len() < BACK_BYTES {
         return;

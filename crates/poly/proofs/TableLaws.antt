@@ -2,7 +2,7 @@
 use mathlib.Core.Path.{_≡_, refl, sym, subst, _∙_}
 use mathlib.Core.Logic.{inl, inr}
 use mathlib.Core.Bool.{Bool, true, false, true≢false}
-use mathlib.Core.List.{List, [], _∷_}
+use mathlib.Core.List.{List, [], _∷_, _++_}
 use Prim.Native.Nat.{ℕ, zero, suc, _<_, _≤_}
 use native.Mathlib.Decide.{decLt}
 use native.Mathlib.Omega.{arith}
@@ -52,6 +52,13 @@ first-goes zero table number k f g = g
 first-goes (suc n) [] number k f g = g
 first-goes (suc n) (x ∷ rest) number k (inl (here, e)) g = let h = k .0 in absurd (omega arith)
 first-goes (suc n) (x ∷ rest) number k (inr (not, f)) g = inr (not, first-goes n rest number (k .1) f g)
+
+-- two tables that begin with the same refusals give the same number, if what follows does
+pub first-then : (table xs ys : List Refusal) (number : ℕ) → (First xs number → First ys number) → First (table ++ xs) number
+    → First (table ++ ys) number
+first-then [] xs ys number follows f = follows f
+first-then (x ∷ rest) xs ys number follows (inl h) = inl h
+first-then (x ∷ rest) xs ys number follows (inr (not, f)) = inr (not, first-then rest xs ys number follows f)
 
 -- the two answers of a test
 pub decided-true : {P : Type 0} → P → Decided true P

@@ -1,7 +1,6 @@
 -- `pluck_finish` meets its contract: the job's own, on the note read from the lent bytes, and its answer in them.
-use mathlib.Core.Path.{refl}
-use Rattle.boards.specs.Calls.{FinishCall}
 use borrow.Author.Needs.{needs}
+use Rattle.boards.proofs.Calling.{finish-unread, finish-short, finish-done}
 use Rattle.boards.proofs.pluck_finish.Statement.{statement}
 use Rattle.boards.proofs.pluck_finish.Tie as tie
 
@@ -14,7 +13,7 @@ same-length c = search needs
 returns : tie.Need-returns
 returns c =
     let cleared = c .before .before in
-    FinishCall.short-note (cleared .before .before .if1 .taken) refl refl (cleared .clear-back .ensures)
+    finish-unread (cleared .before .before .if1 .taken) (cleared .clear-back .ensures)
 
 read-note-requires : tie.Need-read-note-requires
 read-note-requires c κs = search needs
@@ -30,12 +29,7 @@ returns-2 c =
     let refused = c .before in
     let read = refused .before .before in
     let short = read .before in
-    FinishCall.short-back
-    (short .before .if1 .left)
-    (short .if2 .taken)
-    (rw (read .read-note .ensures) at (refused .finish .ensures .first))
-    refl
-    refl
+    finish-short (short .before .if1 .left) (short .if2 .taken) (rw (read .read-note .ensures) at (refused .finish .ensures))
 
 read-note-requires-2 : tie.Need-read-note-requires-2
 read-note-requires-2 c κs = search needs
@@ -58,12 +52,10 @@ returns-3 c =
     let finished = answered .before .before .before .before in
     let read = finished .before .before in
     let long = read .before in
-    FinishCall.done
+    finish-done
     (long .before .if1 .left)
     (long .if2 .left)
-    (finished .finish2 .result)
     (rw (read .read-note2 .ensures) at (finished .finish2 .ensures))
-    refl
     (answered .write-back .ensures)
 
 pub pluck-finish-spec : {M : Type 1} → statement M

@@ -1,8 +1,6 @@
 -- `pluck_list` meets its contract: the job's own contract, and its answer in the lent bytes.
-use mathlib.Core.Path.{refl}
-use Rattle.boards.specs.Calls.{ListCall}
-use Rattle.boards.proofs.Refusing.{list-refused}
 use borrow.Author.Needs.{needs}
+use Rattle.boards.proofs.Calling.{list-short, list-done}
 use Rattle.boards.proofs.pluck_list.Statement.{statement}
 use Rattle.boards.proofs.pluck_list.Tie as tie
 
@@ -18,7 +16,7 @@ list-requires c κs = search needs
 returns : tie.Need-returns
 returns c =
     let refused = c .before .before in
-    ListCall.short-back (refused .before .before .before .if1 .taken) (list-refused (refused .list .ensures)) refl refl refl
+    list-short (refused .before .before .before .if1 .taken) (refused .list .ensures)
 
 list-requires-2 : tie.Need-list-requires-2
 list-requires-2 c κs = search needs
@@ -39,12 +37,7 @@ returns-2 : tie.Need-returns-2
 returns-2 c =
     let answered = c .before .before in
     let listed = answered .before .before .before .before .before .before in
-    ListCall.done
-    (listed .before .before .before .if1 .left)
-    (listed .list2 .result)
-    (listed .list2 .ensures)
-    refl
-    (answered .write-back .ensures)
+    list-done (listed .before .before .before .if1 .left) (listed .list2 .ensures) (answered .write-back .ensures)
 
 pub pluck-list-spec : {M : Type 1} → statement M
 pluck-list-spec =

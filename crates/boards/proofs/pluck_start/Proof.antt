@@ -1,7 +1,6 @@
 -- `pluck_start` meets its contract: the job's own contract, and its note in the lent bytes.
-use mathlib.Core.Path.{refl}
-use Rattle.boards.specs.Calls.{StartCall}
 use borrow.Author.Needs.{needs}
+use Rattle.boards.proofs.Calling.{start-short, start-done}
 use Rattle.boards.proofs.pluck_start.Statement.{statement}
 use Rattle.boards.proofs.pluck_start.Tie as tie
 
@@ -14,7 +13,7 @@ start-requires c κs = search needs
 returns : tie.Need-returns
 returns c =
     let refused = c .before in
-    StartCall.short-note (refused .before .before .if1 .taken) (refused .start .ensures .first) refl refl
+    start-short (refused .before .before .if1 .taken) (refused .start .ensures)
 
 start-requires-2 : tie.Need-start-requires-2
 start-requires-2 c κs = search needs
@@ -32,12 +31,7 @@ returns-2 : tie.Need-returns-2
 returns-2 c =
     let noted = c .before .before in
     let started = noted .before .before .before .before in
-    StartCall.done
-    (started .before .before .if1 .left)
-    (started .start2 .result)
-    (started .start2 .ensures)
-    refl
-    (noted .write-note .ensures)
+    start-done (started .before .before .if1 .left) (started .start2 .ensures) (noted .write-note .ensures)
 
 pub pluck-start-spec : {M : Type 1} → statement M
 pluck-start-spec =

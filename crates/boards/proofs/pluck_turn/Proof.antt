@@ -1,8 +1,6 @@
 -- `pluck_turn` meets its contract: the job's own, on the note read from the lent bytes, and its answer in them.
-use mathlib.Core.Path.{refl}
-use Rattle.boards.specs.Calls.{TurnCall}
-use Rattle.boards.proofs.Refusing.{turn-refused}
 use borrow.Author.Needs.{needs}
+use Rattle.boards.proofs.Calling.{turn-unread, turn-short, turn-done}
 use Rattle.boards.proofs.pluck_turn.Statement.{statement}
 use Rattle.boards.proofs.pluck_turn.Tie as tie
 
@@ -15,7 +13,7 @@ same-length c = search needs
 returns : tie.Need-returns
 returns c =
     let cleared = c .before .before in
-    TurnCall.short-note (cleared .before .before .if1 .taken) refl refl refl (cleared .clear-back .ensures)
+    turn-unread (cleared .before .before .if1 .taken) (cleared .clear-back .ensures)
 
 read-note-requires : tie.Need-read-note-requires
 read-note-requires c κs = search needs
@@ -34,13 +32,7 @@ returns-2 c =
     let refused = c .before in
     let read = refused .before .before in
     let short = read .before .before in
-    TurnCall.short-back
-    (short .before .if1 .left)
-    (short .if2 .taken)
-    (turn-refused (rw (read .read-note .ensures) at (refused .turn .ensures)))
-    refl
-    refl
-    refl
+    turn-short (short .before .if1 .left) (short .if2 .taken) (rw (read .read-note .ensures) at (refused .turn .ensures))
 
 read-note-requires-2 : tie.Need-read-note-requires-2
 read-note-requires-2 c κs = search needs
@@ -70,12 +62,10 @@ returns-3 c =
     let turned = noted .before .before .before .before in
     let read = turned .before .before in
     let long = read .before .before in
-    TurnCall.done
+    turn-done
     (long .before .if1 .left)
     (long .if2 .left)
-    (turned .turn2 .result)
     (rw (read .read-note2 .ensures) at (turned .turn2 .ensures))
-    refl
     (noted .write-note .ensures)
     (answered .write-back .ensures)
 

@@ -1,0 +1,205 @@
+-- A call with room in note and back is its job, on the note that is read there and with what it hands back written there; a call without
+-- it is refused.
+use mathlib.Core.Path.{_≡_, refl, sym, ap, _∙_}
+use mathlib.Core.Logic.{inl, inr, ⊎-elim, dite}
+use mathlib.Core.List.{List, []}
+use Prim.Native.Nat.{ℕ, _<_, _≤_}
+use native.Mathlib.Decide.{ℕ-discrete}
+use native.Mathlib.Omega.{arith}
+use lib.ListN.{length, take, drop}
+use borrow.Author.Needs.{needs}
+use Rattle.poly.specs.Table.{First}
+use Rattle.poly.proofs.TableLaws.{first-passed, first-then}
+use Rattle.poly.proofs.BufferLaws.{untouched-none}
+use Rattle.rows.specs.Bytes.{shape, curveBytes, rowsBytes}
+use Rattle.rows.specs.Jobs.{HasStarted, HasTurned, HasFinished, startTable, turnTable, finishTable, shapeOf}
+use Rattle.rows.specs.declared.Started.{Started}
+use Rattle.rows.specs.declared.Turned.{Turned}
+use Rattle.rows.specs.declared.Finished.{Finished}
+use Rattle.near.specs.Job.{HasListed, listTable}
+use Rattle.near.specs.declared.Near.{Near}
+use Rattle.boards.specs.Lent.{noteBytes, backBytes, noteOf, noteInto, backInto, Cleared}
+use Rattle.boards.specs.Calls.{StartCall, TurnCall, FinishCall, ListCall, startCallTable, turnCallTable, finishCallTable, listCallTable}
+use Rattle.boards.proofs.LentLaws.{note-same, cleared-none, cleared-note, cleared-back, cleared-back-is}
+use Rattle.boards.proofs.Refusing.{wider, narrower, closed, curve-takes, rows-take}
+
+-- start
+
+pub start-short : {p : ℕ} {points word : List ℕ} {k m l : ℕ} {rows rows′ note : List ℕ} {job : Started} → length note < noteBytes
+    → HasStarted p points word k m l [] rows′ job → StartCall p points word k m l rows rows note note (job .number)
+start-short {p} {points} {word} {k} {m} {l} {rows} {note = note} {job} short has =
+    let asked = startTable p points word k m l [] in
+    let table = startCallTable p points word k m l rows note in
+    let first =
+    first-then (take 7 table) (drop 7 asked) (drop 7 table) (job .number) (closed (rows-take (shape p (length points) k m l)) short) (has .first) in
+    record {
+      first = first;
+      done = λ z. absurd (first-passed table (search needs) first z .1 .1 .1 .1 .1 .1 .1 .0 (inr short));
+      refused = λ n. (refl, cleared-none short);
+    }
+
+pub start-done : {p : ℕ} {points word : List ℕ} {k m l : ℕ} {rows rows′ note note′ : List ℕ} {job : Started} → noteBytes ≤ length note
+    → HasStarted p points word k m l rows rows′ job → note′ ≡ noteInto (job .note) note
+    → StartCall p points word k m l rows rows′ note note′ (job .number)
+start-done {p} {points} {word} {k} {m} {l} {rows} {note = note} {job = job} long has e =
+    let asked = startTable p points word k m l rows in
+    let table = startCallTable p points word k m l rows note in
+    record {
+      first = first-then (take 7 table) (drop 7 asked) (drop 7 table) (job .number) (wider (λ h. omega arith)) (has .first);
+      done = λ z. (job, has, refl, e);
+      refused = λ n. (has .refused n .1, rw (e, has .refused n .0) (cleared-note long));
+    }
+
+-- turn
+
+pub turn-unread : {allowance : ℕ} {note rows back back′ : List ℕ} → length note < noteBytes → Cleared backBytes back back′
+    → TurnCall allowance note note rows rows back back′ 9
+turn-unread short c =
+    record { entry = 9; first = inl (short, refl); done = λ z. absurd (omega arith); refused = λ n. (refl, refl, refl, c) }
+
+pub turn-short : {allowance : ℕ} {note rows rows′ back : List ℕ} {job : Turned} → noteBytes ≤ length note → length back < backBytes
+    → HasTurned (noteOf note) allowance [] rows′ job → TurnCall allowance note note rows rows back back (job .number)
+turn-short {note = note} {rows} {back = back} long short has =
+    let asked = turnTable (noteOf note) [] in
+    let table = turnCallTable note rows back in
+    let first : First table (has .entry) = inr (
+      λ h. omega arith,
+      first-then (take 1 asked) (drop 1 asked) (drop 2 table) (has .entry) (closed (rows-take (shapeOf (noteOf note))) short) (has .first),
+    ) in
+    record {
+      entry = has .entry;
+      first = first;
+      done = λ z. absurd (first-passed table (search needs) first z .1 .1 .0 (inr short));
+      refused = λ n. (has .refused n .0, refl, refl, cleared-none short);
+    }
+
+pub turn-done : {allowance : ℕ} {note note′ rows rows′ back back′ : List ℕ} {job : Turned} → noteBytes ≤ length note → backBytes ≤ length back
+    → HasTurned (noteOf note) allowance rows rows′ job → note′ ≡ noteInto (job .note) note
+    → back′ ≡ backInto (record { updates = job .updates; weight = 0; height = 0; count = 0 }) back
+    → TurnCall allowance note note′ rows rows′ back back′ (job .number)
+turn-done {note = note} {rows = rows} {back = back} {job = job} long room has e b =
+    let asked = turnTable (noteOf note) rows in
+    let table = turnCallTable note rows back in
+    record {
+      entry = has .entry;
+      first = inr (λ h. omega arith, first-then (take 1 asked) (drop 1 asked) (drop 2 table) (has .entry) (wider (λ h. omega arith)) (has .first));
+      done = λ z. (job, has, refl, e, b);
+      refused = λ n.
+          let (number, kept, none, same) = has .refused n in
+          (number, e ∙ ap (λ x. noteInto x note) kept ∙ note-same note, same, rw (b, none) (cleared-back room));
+    }
+
+-- a refused call is a job too: one that is refused
+pub turn-job : {allowance : ℕ} {note note′ rows rows′ back back′ : List ℕ} {number : ℕ} → noteBytes ≤ length note → backBytes ≤ length back
+    → TurnCall allowance note note′ rows rows′ back back′ number
+    → (job : Turned) × HasTurned (noteOf note) allowance rows rows′ job × (number ≡ job .number) × (note′ ≡ noteInto (job .note) note)
+    × (back′ ≡ backInto (record { updates = job .updates; weight = 0; height = 0; count = 0 }) back)
+turn-job {note = note} {rows = rows} {back = back} long room call =
+    let asked = turnTable (noteOf note) rows in
+    let table = turnCallTable note rows back in
+    dite (ℕ-discrete (call .entry) 0) (λ z. call .done z)
+    (λ n.
+    let (number-is, note-is, rows-are, c) = call .refused n in (
+      record { number = call .entry; note = noteOf note; updates = 0 },
+      record {
+        entry = call .entry;
+        first =
+            ⊎-elim (λ h. absurd (omega (arith, h .0)))
+            (λ f. first-then (take 1 asked) (drop 2 table) (drop 1 asked) (call .entry) (narrower (λ h. omega arith)) (f .1)) (call .first);
+        goes = λ z. absurd (n z);
+        rest = rw rows-are (untouched-none (rowsBytes (shapeOf (noteOf note))) rows);
+        refused = λ m. (refl, refl, refl, rows-are);
+      },
+      number-is,
+      note-is ∙ sym (note-same note),
+      cleared-back-is room c,
+    ))
+
+-- finish
+
+pub finish-unread : {note rows curve back back′ : List ℕ} → length note < noteBytes → Cleared backBytes back back′
+    → FinishCall note rows curve curve back back′ 9
+finish-unread short c = record { first = inl (short, refl); done = λ z. absurd (omega arith); refused = λ n. (refl, c) }
+
+pub finish-short : {note rows curve curve′ back : List ℕ} {job : Finished} → noteBytes ≤ length note → length back < backBytes
+    → HasFinished (noteOf note) rows [] curve′ job → FinishCall note rows curve curve back back (job .number)
+finish-short {note} {rows} {curve} {back = back} {job} long short has =
+    let asked = finishTable (noteOf note) rows [] in
+    let table = finishCallTable note rows curve back in
+    let first : First table (job .number) = inr (
+      λ h. omega arith,
+      first-then (take 1 asked) (drop 1 asked) (drop 2 table) (job .number) (closed (inr (curve-takes (shapeOf (noteOf note)))) short) (has .first),
+    ) in
+    record {
+      first = first;
+      done = λ z. absurd (first-passed table (search needs) first z .1 .1 .0 (inr short));
+      refused = λ n. (refl, cleared-none short);
+    }
+
+pub finish-done : {note rows curve curve′ back back′ : List ℕ} {job : Finished} → noteBytes ≤ length note → backBytes ≤ length back
+    → HasFinished (noteOf note) rows curve curve′ job
+    → back′ ≡ backInto (record { updates = 0; weight = job .weight; height = job .height; count = 0 }) back
+    → FinishCall note rows curve curve′ back back′ (job .number)
+finish-done {note} {rows} {curve} {back = back} {job = job} long room has b =
+    let asked = finishTable (noteOf note) rows curve in
+    let table = finishCallTable note rows curve back in
+    record {
+      first = inr (λ h. omega arith, first-then (take 1 asked) (drop 1 asked) (drop 2 table) (job .number) (wider (λ h. omega arith)) (has .first));
+      done = λ z. (job, has, refl, b);
+      refused = λ n. let (weight, height, same) = has .refused n in (same, rw (b, weight, height) (cleared-back room));
+    }
+
+pub finish-job : {note rows curve curve′ back back′ : List ℕ} {number : ℕ} → noteBytes ≤ length note → backBytes ≤ length back
+    → FinishCall note rows curve curve′ back back′ number
+    → (job : Finished) × HasFinished (noteOf note) rows curve curve′ job × (number ≡ job .number)
+    × (back′ ≡ backInto (record { updates = 0; weight = job .weight; height = job .height; count = 0 }) back)
+finish-job {note} {rows} {curve} {back = back} {number = number} long room call =
+    let asked = finishTable (noteOf note) rows curve in
+    let table = finishCallTable note rows curve back in
+    dite (ℕ-discrete number 0) (λ z. call .done z)
+    (λ n.
+    let (curve-is, c) = call .refused n in (
+      record { number = number; weight = 0; height = 0 },
+      record {
+        first =
+            ⊎-elim (λ h. absurd (omega (arith, h .0)))
+            (λ f. first-then (take 1 asked) (drop 2 table) (drop 1 asked) number (narrower (λ h. omega arith)) (f .1)) (call .first);
+        curve = λ z. absurd (n z);
+        rest = rw curve-is (untouched-none (curveBytes (shapeOf (noteOf note))) curve);
+        refused = λ m. (refl, refl, curve-is);
+      },
+      refl,
+      cleared-back-is room c,
+    ))
+
+-- list
+
+pub list-short : {p : ℕ} {points word : List ℕ} {k m l t : ℕ} {room room′ messages messages′ back : List ℕ} {job : Near}
+    → length back < backBytes → HasListed p points word k m l t [] room′ [] messages′ job
+    → ListCall p points word k m l t room room messages messages back back (job .number)
+list-short {p} {points} {word} {k} {m} {l} {t} {room} {messages = messages} {back = back} short has =
+    let asked = listTable p points word k m l t [] [] in
+    let table = listCallTable p points word k m l t room messages back in
+    let first = first-then (take 8 table) (drop 8 asked) (drop 8 table) (has .entry) (closed (inl (omega arith)) short) (has .first) in
+    record {
+      entry = has .entry;
+      first = first;
+      done = λ z. absurd (first-passed table (search needs) first z .1 .1 .1 .1 .1 .1 .1 .1 .0 (inr short));
+      refused = λ n. (ap (λ j. j .number) (has .refused n .0), refl, refl, cleared-none short);
+    }
+
+pub list-done : {p : ℕ} {points word : List ℕ} {k m l t : ℕ} {room room′ messages messages′ back back′ : List ℕ} {job : Near}
+    → backBytes ≤ length back → HasListed p points word k m l t room room′ messages messages′ job
+    → back′ ≡ backInto (record { updates = job .updates; weight = job .weight; height = 0; count = job .count }) back
+    → ListCall p points word k m l t room room′ messages messages′ back back′ (job .number)
+list-done {p} {points} {word} {k} {m} {l} {t} {room} {messages = messages} {back = back} {job = job} long has b =
+    let asked = listTable p points word k m l t room messages in
+    let table = listCallTable p points word k m l t room messages back in
+    record {
+      entry = has .entry;
+      first = first-then (take 8 table) (drop 8 asked) (drop 8 table) (has .entry) (wider (λ h. omega arith)) (has .first);
+      done = λ z. (job, has, refl, b);
+      refused = λ n.
+          let (none, kept, same) = has .refused n in
+          (ap (λ j. j .number) none, kept, same, rw (b, none) (cleared-back long));
+    }

@@ -1,0 +1,87 @@
+-- What is written into lent bytes is what is read there, and zeros clear them.
+use mathlib.Core.Path.{_≡_, refl, sym, ap, _∙_}
+use mathlib.Core.List.{List, [], _∷_, _++_}
+use Prim.Native.Nat.{ℕ, zero, suc, _/_, _%_, _<_, _≤_}
+use native.Mathlib.Decide.{decLt}
+use native.Mathlib.Omega.{arith}
+use lib.ListN.{length, getD, drop, replicate}
+use lib.Seq.{set-getD, length-sets, sets-eq}
+use Rattle.poly.specs.Lent.{Zeroed}
+use Rattle.poly.proofs.BufferLaws.{untouched-none, untouched-unique}
+use Rattle.rows.specs.Jobs.{noNote}
+use Rattle.rows.specs.declared.Note.{Note}
+use Rattle.boards.specs.declared.Back.{Back}
+use Rattle.boards.specs.Lent.{noteBytes, backBytes, noteOf, noteInto, backInto, updatesOf, Cleared}
+
+-- a note
+
+note-front : (note : Note) (xs : List ℕ) → noteBytes ≤ length xs
+    → noteInto note xs ≡ note .p ∷ note .n ∷ note .k ∷ note .m ∷ note .l ∷ note .r ∷ drop noteBytes xs
+note-front note xs h = sets-eq (note .p ∷ note .n ∷ note .k ∷ note .m ∷ note .l ∷ note .r ∷ []) xs 0 h
+
+pub note-kept : (note : Note) (xs : List ℕ) → noteBytes ≤ length xs → noteOf (noteInto note xs) ≡ note
+note-kept note xs h = ap noteOf (note-front note xs h)
+
+-- the note that is there, written once more
+pub note-same : (xs : List ℕ) → noteInto (noteOf xs) xs ≡ xs
+note-same xs = rw (set-getD xs 0 0, set-getD xs 1 0, set-getD xs 2 0, set-getD xs 3 0, set-getD xs 4 0, set-getD xs 5 0) refl
+
+pub note-long : (note : Note) (xs : List ℕ) → length (noteInto note xs) ≡ length xs
+note-long note xs = length-sets xs 0 (note .p ∷ note .n ∷ note .k ∷ note .m ∷ note .l ∷ note .r ∷ [])
+
+-- what is handed back
+
+back-front : (back : Back) (xs : List ℕ) → backBytes ≤ length xs
+    → backInto back xs ≡ back .updates % 256 ∷ back .updates / 256 ∷ back .weight ∷ back .height ∷ back .count ∷ drop backBytes xs
+back-front back xs h = sets-eq (back .updates % 256 ∷ back .updates / 256 ∷ back .weight ∷ back .height ∷ back .count ∷ []) xs 0 h
+
+pub updates-kept : (back : Back) (xs : List ℕ) → backBytes ≤ length xs → updatesOf (backInto back xs) ≡ back .updates
+updates-kept back xs h = ap updatesOf (back-front back xs h) ∙ omega arith
+
+-- zeros
+
+zeroed-cons : {size x : ℕ} {xs ys : List ℕ} → Zeroed size xs ys → Zeroed (suc size) (x ∷ xs) (0 ∷ ys)
+zeroed-cons {size} {x} {xs} {ys} z = record { zeros = zeros; rest = record { long = ap suc (z .rest .long); same = same } }
+  where
+    zeros : (q : ℕ) → q < suc size → getD (0 ∷ ys) q 0 ≡ 0
+    zeros zero g = refl
+    zeros (suc q) g = z .zeros q (omega arith)
+
+    same : (q : ℕ) → suc size ≤ q → getD (0 ∷ ys) q 0 ≡ getD (x ∷ xs) q 0
+    same zero g = absurd (omega arith)
+    same (suc q) g = z .rest .same q (omega arith)
+
+zeroed-front : (size : ℕ) (xs : List ℕ) → size ≤ length xs → Zeroed size xs (replicate size 0 ++ drop size xs)
+zeroed-front zero xs h = record { zeros = λ q g. absurd (omega arith); rest = untouched-none zero xs }
+zeroed-front (suc n) [] h = absurd (omega arith)
+zeroed-front (suc n) (x ∷ xs) h = zeroed-cons (zeroed-front n xs (omega arith))
+
+zeroed-unique : {size : ℕ} {xs ys zs : List ℕ} → Zeroed size xs ys → Zeroed size xs zs → ys ≡ zs
+zeroed-unique {size} a b = untouched-unique size (a .rest) (b .rest) (λ q h. a .zeros q h ∙ sym (b .zeros q h))
+
+abbrev nothing : Back
+nothing = record { updates = 0; weight = 0; height = 0; count = 0 }
+
+zeros-back : (xs : List ℕ) → backBytes ≤ length xs → Zeroed backBytes xs (backInto nothing xs)
+zeros-back xs h = rw (back-front nothing xs h) (zeroed-front backBytes xs h)
+
+-- bytes are cleared by zeros, or where they are too few by nothing
+pub cleared-none : {size : ℕ} {xs : List ℕ} → length xs < size → Cleared size xs xs
+cleared-none h = record { short = λ g. refl; zeroed = λ g. absurd (omega arith) }
+
+pub cleared-note : {xs : List ℕ} → noteBytes ≤ length xs → Cleared noteBytes xs (noteInto noNote xs)
+cleared-note {xs} h =
+    record { short = λ g. absurd (omega arith); zeroed = λ g. rw (note-front noNote xs h) (zeroed-front noteBytes xs h) }
+
+pub cleared-back : {xs : List ℕ} → backBytes ≤ length xs → Cleared backBytes xs (backInto nothing xs)
+cleared-back {xs} h = record { short = λ g. absurd (omega arith); zeroed = λ g. zeros-back xs h }
+
+pub cleared-back-is : {xs ys : List ℕ} → backBytes ≤ length xs → Cleared backBytes xs ys → ys ≡ backInto nothing xs
+cleared-back-is {xs} h c = zeroed-unique (c .zeroed h) (zeros-back xs h)
+
+pub cleared-determined : {size : ℕ} {xs ys zs : List ℕ} → Cleared size xs ys → Cleared size xs zs → ys ≡ zs
+cleared-determined {size} {xs} {ys} {zs} a b = go (decLt (length xs) size)
+  where
+    go : Dec (length xs < size) → ys ≡ zs
+    go (yes h) = a .short h ∙ sym (b .short h)
+    go (no h) = zeroed-unique (a .zeroed (omega arith)) (b .zeroed (omega arith))
