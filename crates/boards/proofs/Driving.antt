@@ -1,6 +1,6 @@
 -- Demand 3 holds of the calls too: calls on lent bytes are a start and turns of the jobs, since what a call writes into a note is what
 -- the next one reads there.
-use mathlib.Core.Path.{_≡_, refl, sym, ap, _∙_}
+use mathlib.Core.Path.{_≡_, refl, sym, ap, ap₂, _∙_}
 use mathlib.Core.Logic.{inr}
 use mathlib.Core.List.{List}
 use Prim.Native.Nat.{ℕ, _+_, _<_, _≤_}
@@ -9,14 +9,15 @@ use lib.ListN.{length}
 use borrow.Author.Needs.{needs}
 use Rattle.poly.proofs.TableLaws.{first-passed}
 use Rattle.rows.specs.Jobs.{HasTurned}
-use Rattle.rows.specs.Demands.{Request, Begun, Driven, Pause}
+use Rattle.rows.specs.Demands.{Request, Begun, Driven}
 use Rattle.rows.specs.declared.Started.{Started}
 use Rattle.rows.specs.declared.Turned.{Turned}
 use Rattle.rows.proofs.Demands.{demand-3}
-use Rattle.boards.specs.Lent.{noteBytes, backBytes, noteOf, noteInto, backInto, updatesOf}
-use Rattle.boards.specs.Calls.{startCallTable, StartCall, DrivenCalls}
-use Rattle.boards.proofs.LentLaws.{note-kept, note-long, updates-kept}
-use Rattle.boards.proofs.Calling.{turn-job}
+use Rattle.boards.specs.declared.Back.{Back}
+use Rattle.boards.specs.Lent.{noteBytes, backBytes, noteOf, noteInto, backInto, updatesOf, finishedOf}
+use Rattle.boards.specs.Calls.{startCallTable, StartCall, DrivenCalls, PauseCalls}
+use Rattle.boards.proofs.LentLaws.{note-kept, note-long, updates-kept, finished-kept}
+use Rattle.boards.proofs.Calling.{turn-job, finish-job}
 
 module _ {q : Request} where
   start-driven : (note : List ℕ) {rows rows′ note′ : List ℕ} {job : Started} → noteBytes ≤ length note → Begun q rows rows′ job
@@ -50,6 +51,19 @@ module _ {q : Request} where
       let (job, has, e, n, b) = turn-job long room call in
       turn-driven note back long room driven has n b
 
--- so what demand 3 says of every pause holds at every pause of the calls
-pub calls-pause : {q : Request} {sum made : ℕ} {rows note : List ℕ} → DrivenCalls q sum rows note made → Pause q sum rows (noteOf note) made
-calls-pause {q} calls = demand-3 q (calls-driven calls .1)
+  -- so what demand 3 says of every pause holds at every pause of the calls, on the bytes that the caller sees
+  pub calls-pause : {sum made : ℕ} {rows note : List ℕ} → DrivenCalls q sum rows note made → PauseCalls q sum rows note made
+  calls-pause calls =
+      let (long, driven) = calls-driven calls in
+      let pause = demand-3 q driven in
+      record {
+        accepted = λ allowance number note′ rows′ back back′ room call.
+            let (job, has, e, n, b) = turn-job long room call in
+            e ∙ pause .accepted allowance rows′ job has;
+        paused = pause;
+        handed = λ r number curve curve′ back back′ fits room call.
+            let (job, has, e, b) = finish-job long room call in
+            let answer : Back = record { updates = 0; weight = job .weight; height = job .height; count = 0 } in
+            let read : finishedOf number back′ ≡ job = ap₂ finishedOf e b ∙ finished-kept (job .number) answer back room in
+            rw read (pause .curve r curve curve′ job has fits);
+      }

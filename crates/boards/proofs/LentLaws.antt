@@ -11,7 +11,7 @@ use Rattle.poly.proofs.BufferLaws.{untouched-none, untouched-unique}
 use Rattle.rows.specs.Jobs.{noNote}
 use Rattle.rows.specs.declared.Note.{Note}
 use Rattle.boards.specs.declared.Back.{Back}
-use Rattle.boards.specs.Lent.{noteBytes, backBytes, noteOf, noteInto, backInto, updatesOf, Cleared}
+use Rattle.boards.specs.Lent.{noteBytes, backBytes, noteOf, noteInto, backInto, updatesOf, finishedOf, Cleared}
 
 -- a note
 
@@ -37,6 +37,10 @@ back-front back xs h = sets-eq (back .updates % 256 ∷ back .updates / 256 ∷ 
 
 pub updates-kept : (back : Back) (xs : List ℕ) → backBytes ≤ length xs → updatesOf (backInto back xs) ≡ back .updates
 updates-kept back xs h = ap updatesOf (back-front back xs h) ∙ omega arith
+
+pub finished-kept : (number : ℕ) (back : Back) (xs : List ℕ) → backBytes ≤ length xs
+    → finishedOf number (backInto back xs) ≡ record { number = number; weight = back .weight; height = back .height }
+finished-kept number back xs h = ap (finishedOf number) (back-front back xs h)
 
 -- zeros
 

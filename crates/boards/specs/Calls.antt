@@ -6,6 +6,7 @@
 --                   not hand back is zero there
 --     refused       if one does: every byte is as it was, but for zeros in back, and in the note of a start, where there is room for them
 --   DrivenCalls     a start that is answered with 0, then any number of turns, each on the bytes that the last call left, with room in back
+--   PauseCalls      what holds at every pause of the calls (demand 3)
 -- Encode hands back its number alone: its call has the job's own contract.
 use mathlib.Core.Path.{_≡_}
 use mathlib.Core.Logic.{_⊎_}
@@ -16,13 +17,13 @@ use Rattle.poly.specs.Limits.{workingRoom}
 use Rattle.poly.specs.Table.{Refusal, First, TooShort}
 use Rattle.rows.specs.Bytes.{shape, curveBytes, rowsBytes}
 use Rattle.rows.specs.Jobs.{BadNote, shapeOf, AsLeft, requestTable, HasStarted, HasTurned, HasFinished}
-use Rattle.rows.specs.Demands.{Request}
+use Rattle.rows.specs.Demands.{Request, shapeFor, HandsCurve, Pause}
 use Rattle.rows.specs.declared.Started.{Started}
 use Rattle.rows.specs.declared.Turned.{Turned}
 use Rattle.rows.specs.declared.Finished.{Finished}
 use Rattle.near.specs.Job.{HasListed}
 use Rattle.near.specs.declared.Near.{Near}
-use Rattle.boards.specs.Lent.{noteBytes, backBytes, noteOf, noteInto, backInto, updatesOf, Cleared}
+use Rattle.boards.specs.Lent.{noteBytes, backBytes, noteOf, noteInto, backInto, updatesOf, finishedOf, Cleared}
 
 -- start
 
@@ -100,3 +101,14 @@ pub data DrivenCalls (q : Request) : ℕ → List ℕ → List ℕ → ℕ → T
   turned : {allowed total number : ℕ} {rows rows′ note note′ back back′ : List ℕ} (allowance : ℕ) → DrivenCalls q allowed rows note total
       → backBytes ≤ length back → TurnCall allowance note note′ rows rows′ back back′ number
       → DrivenCalls q (allowed + allowance) rows′ note′ (total + updatesOf back′)
+
+pub record PauseCalls (q : Request) (allowed : ℕ) (rows note : List ℕ) (total : ℕ) : Type 0 where
+  -- the next turn with room in back, whatever its allowance, gives 0
+  pub accepted : (allowance number : ℕ) (note′ rows′ back back′ : List ℕ) → backBytes ≤ length back
+      → TurnCall allowance note note′ rows rows′ back back′ number → number ≡ 0
+  -- rows and note are as at a pause of the jobs: what the rows generate, in which power of y each leads, how many updates were made, and that r
+  -- is l + 1 once the allowances add up to the formula
+  pub paused : Pause q allowed rows (noteOf note) total
+  -- then a finish with room for the curve and in back gives 0, and hands over the curve of demand 2 with its weight and height
+  pub handed : noteOf note .r ≡ suc (q .l) → (number : ℕ) (curve curve′ back back′ : List ℕ) → curveBytes (shapeFor q) ≤ length curve
+      → backBytes ≤ length back → FinishCall note rows curve curve′ back back′ number → HandsCurve q curve′ (finishedOf number back′)

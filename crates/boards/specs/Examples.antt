@@ -3,7 +3,7 @@ use mathlib.Core.Path.{_≡_, refl}
 use mathlib.Core.List.{List, [], _∷_}
 use Prim.Native.Nat.{ℕ}
 use Rattle.rows.specs.declared.Note.{Note}
-use Rattle.boards.specs.Lent.{noteOf, noteInto, backInto, updatesOf}
+use Rattle.boards.specs.Lent.{noteOf, noteInto, backInto, updatesOf, finishedOf}
 
 abbrev lent : List ℕ
 lent = 9 ∷ 9 ∷ 9 ∷ 9 ∷ 9 ∷ 9 ∷ 9 ∷ []
@@ -22,3 +22,6 @@ back-example = refl
 
 updates-example : updatesOf (44 ∷ 1 ∷ lent) ≡ 300
 updates-example = refl
+
+finished-example : finishedOf 0 (0 ∷ 0 ∷ 7 ∷ 3 ∷ lent) ≡ record { number = 0; weight = 7; height = 3 }
+finished-example = refl

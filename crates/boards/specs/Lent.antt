@@ -4,6 +4,7 @@
 --   noteInto note xs        xs with the note in its first bytes
 --   backInto back xs        xs with what is handed back in its first bytes: the updates, low byte first, the weight, the height, the count
 --   updatesOf xs            the updates in the first bytes of xs
+--   finishedOf number xs    what a finish hands back: the number, and the weight and the height in the first bytes of xs
 --   Cleared size xs ys      ys is xs with its first `size` bytes zero, or xs itself where it has fewer
 use mathlib.Core.Path.{_≡_}
 use mathlib.Core.List.{List, [], _∷_}
@@ -12,6 +13,7 @@ use lib.ListN.{length, getD}
 use lib.Seq.{sets}
 use Rattle.poly.specs.Lent.{Zeroed}
 use Rattle.rows.specs.declared.Note.{Note}
+use Rattle.rows.specs.declared.Finished.{Finished}
 use Rattle.boards.specs.declared.Back.{Back}
 
 abbrev pub noteBytes : ℕ
@@ -31,6 +33,9 @@ backInto back xs = sets xs 0 (back .updates % 256 ∷ back .updates / 256 ∷ ba
 
 abbrev pub updatesOf : List ℕ → ℕ
 updatesOf xs = getD xs 0 0 + 256 * getD xs 1 0
+
+abbrev pub finishedOf : ℕ → List ℕ → Finished
+finishedOf number xs = record { number = number; weight = getD xs 2 0; height = getD xs 3 0 }
 
 pub record Cleared (size : ℕ) (xs ys : List ℕ) : Type 0 where
   pub short : length xs < size → ys ≡ xs
