@@ -29,6 +29,13 @@ note-same xs = rw (set-getD xs 0 0, set-getD xs 1 0, set-getD xs 2 0, set-getD x
 pub note-long : (note : Note) (xs : List ℕ) → length (noteInto note xs) ≡ length xs
 note-long note xs = length-sets xs 0 (note .p ∷ note .n ∷ note .k ∷ note .m ∷ note .l ∷ note .r ∷ [])
 
+-- of two notes written one after the other the later one is there
+pub note-last : (note other : Note) (xs : List ℕ) → noteBytes ≤ length xs → noteInto note (noteInto other xs) ≡ noteInto note xs
+note-last note other xs h =
+    note-front note (noteInto other xs) (rw (note-long other xs) h)
+    ∙ ap (λ ys. note .p ∷ note .n ∷ note .k ∷ note .m ∷ note .l ∷ note .r ∷ drop noteBytes ys) (note-front other xs h)
+    ∙ sym (note-front note xs h)
+
 -- what is handed back
 
 back-front : (back : Back) (xs : List ℕ) → backBytes ≤ length xs

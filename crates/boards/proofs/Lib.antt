@@ -3,3 +3,4 @@ pub mod Refusing
 pub mod Calling
 pub mod Determined
 pub mod Driving
+pub mod Cutting
