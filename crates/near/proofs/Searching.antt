@@ -22,7 +22,8 @@ use Rattle.rows.specs.Bytes.{width}
 use Rattle.rows.specs.Jobs.{TheCurve}
 use Rattle.near.specs.Lists.{Task, polynomial, agreements}
 use Rattle.near.specs.Search.{Fits, each, Searched, slice, lowest, fits?, curveLeft, level, opened, found}
-use Rattle.near.specs.Job.{taskOf, listTable, Lists, Answers, HasListed, HasSearched}
+use Rattle.near.specs.Job.{taskOf, listTable, Lists, Answers, HasListed}
+use Rattle.near.specs.Searching.{HasSearched}
 use Rattle.near.specs.declared.Near.{Near}
 use Rattle.near.proofs.Messages.{symbols-numbered, Numbering}
 use Rattle.near.proofs.Lists.{list-unique}

@@ -7,7 +7,6 @@
 --   Lists              what an answered list hands back and leaves in the message room: exactly the messages wanted
 --   Answers            what an accepted list leaves: with w the curve's weight, 13 where m t is not above w, and else the list
 --   HasListed          what the job hands back and leaves in the lent bytes
---   HasSearched        the messages that it leaves are those that the search finds on the curve of demand 2
 use mathlib.Core.Path.{_≡_}
 use mathlib.Core.Logic.{_⊎_}
 use mathlib.Core.List.{List, [], _∷_, _++_}
@@ -23,7 +22,6 @@ use Rattle.curves.specs.Start.{startRow}
 use Rattle.curves.specs.Turns.{Outcome, Turn}
 use Rattle.rows.specs.Jobs.{TheCurve, requestTable}
 use Rattle.near.specs.Lists.{Task, IsList}
-use Rattle.near.specs.Search.{Searched}
 use Rattle.near.specs.declared.Near.{Near}
 
 abbrev pub taskOf : (p : ℕ) → List ℕ → List ℕ → ℕ → ℕ → Task (symbols p)
@@ -79,11 +77,3 @@ module _ (p : ℕ) (points word : List ℕ) (k m l : ℕ) where
       pub first : First (listTable p points word k m l t room-before before) entry
       pub answers : entry ≡ 0 → Answers room-before room-after before after back
       pub refused : (entry ≡ 0 → ⊥) → (back ≡ refusal entry) × (room-after ≡ room-before) × (after ≡ before)
-
-    pub record HasSearched (after : List ℕ) (back : Near) : Type 0 where
-      pub curve : Curve (symbols p .ring)
-      pub smallest : TheCurve p points word k m l curve
-      pub list : List (List ℕ)
-      pub searched : Searched (taskOf p points word k t) (suc l) curve k [] list
-      pub count : back .count ≡ length list
-      pub written : take (length list * k) after ≡ flat list
