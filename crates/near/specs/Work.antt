@@ -9,13 +9,13 @@
 --   Shifted plan i c xs ys  the bytes ys are what the curve becomes when c is chosen as the symbol at x^i; no other byte is written
 --   Received plan points word   messages are not empty; points and symbols are below p, and as many
 --   taskFor plan points word  the task that they set
---   after                   the messages found that begin with the first i bytes of `chosen`, on the curve that they leave
+--   after                   the messages found that begin with the first k - left bytes of `chosen`, on the curve that they leave
 --   with                    those of them that go on with c
 --   kept                    the first k bytes of `chosen` as a list of one message, if it has the agreements
 --   Room plan count list messages     there is room for the list after `count` messages
 --   Wrote                   the list was written after `count` messages, and the number of all is handed back
---   Searches                what a level asks: the curve is laid, and a symbol is to be chosen after the first i
---   Leaves                  what it leaves: the curve and the first i symbols as they were, and the messages written
+--   Searches                what a level asks: the curve is laid, and `left` symbols are to be chosen, at least one, after the others
+--   Leaves                  what it leaves: the curve and the symbols chosen before as they were, and the messages written
 --   planOf p n k m l t      the plan of a request
 --   foundOn                 all messages found on the curve that bytes are
 --   Runs                    what the whole search asks: the curve is laid, and l messages are room enough
@@ -93,21 +93,23 @@ module _ (plan : Plan) (points word : List ℕ) where
   taskFor = taskOf (plan .p) points word (plan .k) (plan .t)
 
   abbrev pub after : (curve chosen : List ℕ) → ℕ → List (List ℕ)
-  after curve chosen i = level taskFor (suc (plan .l)) (suc (plan .width)) (plan .k - i) (take i chosen) (curveOf plan curve)
+  after curve chosen left = level taskFor (suc (plan .l)) (suc (plan .width)) left (take (plan .k - left) chosen) (curveOf plan curve)
 
   abbrev pub with : (curve chosen : List ℕ) → ℕ → ℕ → List (List ℕ)
-  with curve chosen i c = opened taskFor (suc (plan .l)) (suc (plan .width)) (plan .k - suc i) (take i chosen) (curveOf plan curve) c
+  with curve chosen left c =
+      opened taskFor (suc (plan .l)) (suc (plan .width)) (left - 1) (take (plan .k - left) chosen) (curveOf plan curve) c
 
   abbrev pub kept : List ℕ → List (List ℕ)
   kept chosen =
       choose (decLe (plan .t) (agreements taskFor (length points) (polynomial taskFor (take (plan .k) chosen)))) (take (plan .k) chosen ∷ []) []
 
-  pub record Searches (curve chosen : List ℕ) (i : ℕ) : Type 0 where
+  pub record Searches (curve chosen : List ℕ) (left : ℕ) : Type 0 where
     pub received : Received plan points word
     pub laid : Laid plan curve
-    pub next : i < plan .k
+    pub some : 0 < left
+    pub most : left ≤ plan .k
     pub long : plan .k ≤ length chosen
-    pub spelt : Spelt (plan .p) i (take i chosen)
+    pub spelt : Spelt (plan .p) (plan .k - left) (take (plan .k - left) chosen)
 
 pub record Room (plan : Plan) (count : ℕ) (list : List (List ℕ)) (messages : List ℕ) : Type 0 where
   pub enough : (count + length list) * plan .k ≤ length messages
@@ -116,9 +118,10 @@ pub record Wrote (plan : Plan) (count : ℕ) (list : List (List ℕ)) (before af
   pub total : r ≡ count + length list
   pub written : after ≡ sets before (count * plan .k) (flat list)
 
-pub record Leaves (plan : Plan) (i count : ℕ) (list : List (List ℕ)) (curve curve′ chosen chosen′ messages messages′ : List ℕ) (r : ℕ) : Type 0 where
+pub record Leaves (plan : Plan) (left count : ℕ) (list : List (List ℕ)) (curve curve′ chosen chosen′ messages messages′ : List ℕ)
+    (r : ℕ) : Type 0 where
   pub same : curve′ ≡ curve
-  pub front : take i chosen′ ≡ take i chosen
+  pub front : take (plan .k - left) chosen′ ≡ take (plan .k - left) chosen
   pub wrote : Wrote plan count list messages messages′ r
 
 abbrev pub planOf : ℕ → ℕ → ℕ → ℕ → ℕ → ℕ → Plan

@@ -182,7 +182,7 @@ fn keep(
     count + 1
 }
 
-// Each next symbol is tried, and each fitting one opens the next level.
+// Each next symbol is tried, and each fitting one opens the next level; `left` symbols are still to choose.
 fn level(
     curve: &mut [u8],
     chosen: &mut [u8],
@@ -190,20 +190,21 @@ fn level(
     word: &[u8],
     messages: &mut [u8],
     plan: Plan,
-    i: usize,
+    left: usize,
     count: usize,
 ) -> usize
-    requires { ⌜ Searches plan (now points) (now word) (now curve) (now chosen) i ⌝ }
-    requires { ⌜ Room plan count (after plan (now points) (now word) (now curve) (now chosen) i) (now messages) ⌝ }
-    ensures { λ r. ⌜ Leaves plan i count (after plan (now (points .entry)) (now (word .entry)) (now (curve .entry)) (now (chosen .entry)) i)
+    requires { ⌜ Searches plan (now points) (now word) (now curve) (now chosen) left ⌝ }
+    requires { ⌜ Room plan count (after plan (now points) (now word) (now curve) (now chosen) left) (now messages) ⌝ }
+    ensures { λ r. ⌜ Leaves plan left count (after plan (now (points .entry)) (now (word .entry)) (now (curve .entry)) (now (chosen .entry)) left)
         (now (curve .entry)) (now (curve .exit)) (now (chosen .entry)) (now (chosen .exit)) (now (messages .entry)) (now (messages .exit)) r ⌝ }
 {
+    let i = plan.k - left;
     let low = lowest(curve, plan, i);
     let mut found = count;
     let mut c = 0;
     while c < plan.p {
         if fits(curve, plan, i, low, c) {
-            found = open(curve, chosen, points, word, messages, plan, i, c, found);
+            found = open(curve, chosen, points, word, messages, plan, left, c, found);
         }
         c += 1;
     }
@@ -218,23 +219,24 @@ fn open(
     word: &[u8],
     messages: &mut [u8],
     plan: Plan,
-    i: usize,
+    left: usize,
     c: u8,
     count: usize,
 ) -> usize
-    requires { ⌜ Searches plan (now points) (now word) (now curve) (now chosen) i ⌝ }
+    requires { ⌜ Searches plan (now points) (now word) (now curve) (now chosen) left ⌝ }
     requires { ⌜ c < plan .p ⌝ }
-    requires { ⌜ Room plan count (with plan (now points) (now word) (now curve) (now chosen) i c) (now messages) ⌝ }
-    ensures { λ r. ⌜ Leaves plan i count (with plan (now (points .entry)) (now (word .entry)) (now (curve .entry)) (now (chosen .entry)) i c)
+    requires { ⌜ Room plan count (with plan (now points) (now word) (now curve) (now chosen) left c) (now messages) ⌝ }
+    ensures { λ r. ⌜ Leaves plan left count (with plan (now (points .entry)) (now (word .entry)) (now (curve .entry)) (now (chosen .entry)) left c)
         (now (curve .entry)) (now (curve .exit)) (now (chosen .entry)) (now (chosen .exit)) (now (messages .entry)) (now (messages .exit)) r ⌝ }
 {
+    let i = plan.k - left;
     let symbol = Symbol { value: c };
     chosen[i] = c;
-    if i + 1 == plan.k {
+    if left == 1 {
         return keep(chosen, points, word, messages, plan, count);
     }
     shift(curve, plan, i, symbol);
-    let found = level(curve, chosen, points, word, messages, plan, i + 1, count);
+    let found = level(curve, chosen, points, word, messages, plan, left - 1, count);
     shift(curve, plan, i, symbol.negative(plan.p));
     found
 }
@@ -273,5 +275,5 @@ pub fn run(
 {
     let mut chosen = [0u8; 32];
     let plan = plan_of(p, points.len(), k, m, l, t);
-    level(curve, &mut chosen, points, word, messages, plan, 0, 0) as u8
+    level(curve, &mut chosen, points, word, messages, plan, plan.k, 0) as u8
 }

@@ -105,36 +105,47 @@ spelt-snoc {p} {i} {c} {x} s h =
     go j k (yes e) = let z : j ≡ length x = e ∙ sym (s .long) in rw (z, getD-append-seam x c [] 0) h
     go j k (no e) = let l = s .long in rw (List·getD-append x (c ∷ []) 0 j (omega arith)) (s .small j (omega arith))
 
--- what comes of trying c after the first i symbols
-abbrev pub tried : (plan : Plan) (points word curve chosen : List ℕ) (i : ℕ) → ℕ → List (List ℕ)
-tried plan points word curve chosen i =
-    branch (taskFor plan points word) (suc (plan .l)) (suc (plan .width)) (plan .k - suc i) (take i chosen) (curveOf plan curve)
+-- what comes of trying c as the next of the symbols left
+abbrev pub tried : (plan : Plan) (points word curve chosen : List ℕ) (left : ℕ) → ℕ → List (List ℕ)
+tried plan points word curve chosen left =
+    branch (taskFor plan points word) (suc (plan .l)) (suc (plan .width)) (left - 1) (take (plan .k - left) chosen) (curveOf plan curve)
 
 -- how a level's loop stands: the symbols below c are done
-pub record Going (plan : Plan) (points word curve₀ chosen₀ messages₀ : List ℕ) (i count : ℕ) (curve chosen messages : List ℕ)
+pub record Going (plan : Plan) (points word curve₀ chosen₀ messages₀ : List ℕ) (left count : ℕ) (curve chosen messages : List ℕ)
     (found c : ℕ) : Type 0 where
   pub upto : c ≤ plan .p
   pub long : length chosen ≡ length chosen₀
-  pub leaves : Leaves plan i count (each c (tried plan points word curve₀ chosen₀ i)) curve₀ curve chosen₀ chosen messages₀ messages found
+  pub leaves : Leaves plan left count (each c (tried plan points word curve₀ chosen₀ left)) curve₀ curve chosen₀ chosen messages₀ messages found
 
-module _ {plan : Plan} {points word curve₀ chosen₀ : List ℕ} {i : ℕ} (s : Searches plan points word curve₀ chosen₀ i) where
+module _ {plan : Plan} {points word curve₀ chosen₀ : List ℕ} {left : ℕ} (s : Searches plan points word curve₀ chosen₀ left) where
+  abbrev i : ℕ
+  i = plan .k - left
+
+  pub next-below : i < plan .k
+  next-below = let n = s .some in let m = s .most in omega arith
+
+  next-up : plan .k - (left - 1) ≡ suc i
+  next-up = let n = s .some in let m = s .most in omega arith
+
   abbrev try : ℕ → List (List ℕ)
-  try = tried plan points word curve₀ chosen₀ i
+  try = tried plan points word curve₀ chosen₀ left
 
-  after-each : after plan points word curve₀ chosen₀ i ≡ each (plan .p) try
+  after-each : after plan points word curve₀ chosen₀ left ≡ each (plan .p) try
   after-each =
-      let n = s .next in
-      let e : plan .k - i ≡ suc (plan .k - suc i) = omega arith in
-      rw e (level-suc (taskFor plan points word) (suc (plan .l)) (suc (plan .width)) (plan .k - suc i) (take i chosen₀) (curveOf plan curve₀))
+      let n = s .some in
+      let e : left ≡ suc (left - 1) = omega arith in
+      ap (λ (q : ℕ). level (taskFor plan points word) (suc (plan .l)) (suc (plan .width)) q (take i chosen₀) (curveOf plan curve₀)) e
+      ∙ level-suc (taskFor plan points word) (suc (plan .l)) (suc (plan .width)) (left - 1) (take i chosen₀) (curveOf plan curve₀)
 
   try-blocks : (c : ℕ) → Blocks (plan .k) (try c)
   try-blocks c =
-      let n = s .next in
+      let n = s .some in
+      let m = s .most in
       let l = s .spelt .long in
-      let e : length (take i chosen₀ ++ (c ∷ [])) + (plan .k - suc i) ≡ plan .k = rw (length-append (take i chosen₀) (c ∷ [])) (omega arith) in
+      let e : length (take i chosen₀ ++ (c ∷ [])) + (left - 1) ≡ plan .k = rw (length-append (take i chosen₀) (c ∷ [])) (omega arith) in
       blocks-choose (fits? (symbols (plan .p)) (suc (plan .l)) (suc (plan .width)) (length (take i chosen₀)) (curveOf plan curve₀)
       (symbol (plan .p) c))
-      (rw e at (level-blocks (taskFor plan points word) (suc (plan .l)) (suc (plan .width)) (plan .k - suc i) (take i chosen₀ ++ (c ∷ []))
+      (rw e at (level-blocks (taskFor plan points word) (suc (plan .l)) (suc (plan .width)) (left - 1) (take i chosen₀ ++ (c ∷ []))
       (choice (symbols (plan .p) .ring) (suc (plan .l)) (length (take i chosen₀)) (symbol (plan .p) c) (curveOf plan curve₀))))
 
   -- whether c fits, at the power of x that the code found
@@ -143,28 +154,29 @@ module _ {plan : Plan} {points word curve₀ chosen₀ : List ℕ} {i : ℕ} (s 
         (lowest (symbols (plan .p)) (suc (plan .l)) (suc (plan .width)) (length (take i chosen₀)) (curveOf plan curve₀)) c)
     fits = fits? (symbols (plan .p)) (suc (plan .l)) (suc (plan .width)) (length (take i chosen₀)) (curveOf plan curve₀) (symbol (plan .p) c)
 
-    try-fits : RootAt plan curve₀ i low c → try c ≡ with plan points word curve₀ chosen₀ i c
-    try-fits h = choose-yes fits (with plan points word curve₀ chosen₀ i c) [] (rw (s .spelt .long) (rw least at h))
+    try-fits : RootAt plan curve₀ i low c → try c ≡ with plan points word curve₀ chosen₀ left c
+    try-fits h = choose-yes fits (with plan points word curve₀ chosen₀ left c) [] (rw (s .spelt .long) (rw least at h))
 
     try-fails : (RootAt plan curve₀ i low c → ⊥) → try c ≡ []
-    try-fails h = choose-no fits (with plan points word curve₀ chosen₀ i c) [] (λ d. h (rw least (rw (s .spelt .long) at d)))
+    try-fails h = choose-no fits (with plan points word curve₀ chosen₀ left c) [] (λ d. h (rw least (rw (s .spelt .long) at d)))
 
-  pub going-none : {messages₀ : List ℕ} {count : ℕ} → Going plan points word curve₀ chosen₀ messages₀ i count curve₀ chosen₀ messages₀ count 0
+  pub going-none : {messages₀ : List ℕ} {count : ℕ} → Going plan points word curve₀ chosen₀ messages₀ left count curve₀ chosen₀ messages₀ count 0
   going-none = record { upto = omega arith; long = refl; leaves = record { same = refl; front = refl; wrote = wrote-none (each-none try) } }
 
   module _ {messages₀ curve chosen messages : List ℕ} {count found c : ℕ}
-      (g : Going plan points word curve₀ chosen₀ messages₀ i count curve chosen messages found c) where
-    pub going-searches : Searches plan points word curve chosen i
+      (g : Going plan points word curve₀ chosen₀ messages₀ left count curve chosen messages found c) where
+    pub going-searches : Searches plan points word curve chosen left
     going-searches =
         record {
           received = s .received;
           laid = rw (g .leaves .same) (s .laid);
-          next = s .next;
+          some = s .some;
+          most = s .most;
           long = let l = g .long in let k = s .long in omega arith;
           spelt = rw (g .leaves .front) (s .spelt);
         }
 
-    with-now : with plan points word curve chosen i c ≡ with plan points word curve₀ chosen₀ i c
+    with-now : with plan points word curve chosen left c ≡ with plan points word curve₀ chosen₀ left c
     with-now = rw (g .leaves .same, g .leaves .front)
 
     pub going-messages : length messages ≡ length messages₀
@@ -173,29 +185,29 @@ module _ {plan : Plan} {points word curve₀ chosen₀ : List ℕ} {i : ℕ} (s 
     -- the test that the code made, on the curve as it is now
     module _ {low : ℕ} (least : low ≡ lowest (symbols (plan .p)) (suc (plan .l)) (suc (plan .width)) i (curveOf plan curve₀)) {r : Bool}
         (test : Decided r (RootAt plan curve i low c)) where
-      pub fitting : r ≡ true → try c ≡ with plan points word curve₀ chosen₀ i c
+      pub fitting : r ≡ true → try c ≡ with plan points word curve₀ chosen₀ left c
       fitting e = try-fits least c (rw (g .leaves .same) at (test .holds e))
 
       pub failing : r ≡ false → try c ≡ []
       failing e = try-fails least c (λ d. test .fails e (rw (g .leaves .same) d))
 
     module _ (h : c < plan .p) where
-      pub opens : try c ≡ with plan points word curve₀ chosen₀ i c → Room plan count (after plan points word curve₀ chosen₀ i) messages₀
-          → Room plan found (with plan points word curve chosen i c) messages
+      pub opens : try c ≡ with plan points word curve₀ chosen₀ left c → Room plan count (after plan points word curve₀ chosen₀ left) messages₀
+          → Room plan found (with plan points word curve chosen left c) messages
       opens e room =
           let t = g .leaves .wrote .total in
           let m = going-messages in
-          let l : length (each (c + 1) try) ≡ length (each c try) + length (with plan points word curve₀ chosen₀ i c) =
+          let l : length (each (c + 1) try) ≡ length (each c try) + length (with plan points word curve₀ chosen₀ left c) =
           rw (each-suc try c, length-append (each c try) (try c), e) in
           let a = each-mono try (c + 1) (plan .p) (omega arith) in
           let r : (count + length (each (plan .p) try)) * plan .k ≤ length messages₀ = rw after-each at (room .enough) in
-          let b : (found + length (with plan points word curve₀ chosen₀ i c)) * plan .k ≤ (count + length (each (plan .p) try)) * plan .k =
+          let b : (found + length (with plan points word curve₀ chosen₀ left c)) * plan .k ≤ (count + length (each (plan .p) try)) * plan .k =
           mul-le-mul-right (plan .k) (omega arith) in
           record { enough = rw with-now (omega arith) }
 
-      pub grown : {curve′ chosen′ messages′ : List ℕ} {r : ℕ} → try c ≡ with plan points word curve₀ chosen₀ i c → length chosen′ ≡ length chosen
-          → Leaves plan i found (with plan points word curve chosen i c) curve curve′ chosen chosen′ messages messages′ r
-          → Going plan points word curve₀ chosen₀ messages₀ i count curve′ chosen′ messages′ r (c + 1)
+      pub grown : {curve′ chosen′ messages′ : List ℕ} {r : ℕ} → try c ≡ with plan points word curve₀ chosen₀ left c → length chosen′ ≡ length chosen
+          → Leaves plan left found (with plan points word curve chosen left c) curve curve′ chosen chosen′ messages messages′ r
+          → Going plan points word curve₀ chosen₀ messages₀ left count curve′ chosen′ messages′ r (c + 1)
       grown e n o =
           record {
             upto = omega arith;
@@ -208,97 +220,114 @@ module _ {plan : Plan} {points word curve₀ chosen₀ : List ℕ} {i : ℕ} (s 
                 };
           }
 
-      pub passed : try c ≡ [] → Going plan points word curve₀ chosen₀ messages₀ i count curve chosen messages found (c + 1)
+      pub passed : try c ≡ [] → Going plan points word curve₀ chosen₀ messages₀ left count curve chosen messages found (c + 1)
       passed e = record { upto = omega arith; long = g .long; leaves = rw (each-suc try c, e, append-nil) (g .leaves) }
 
-    pub going-all : c ≡ plan .p → Leaves plan i count (after plan points word curve₀ chosen₀ i) curve₀ curve chosen₀ chosen messages₀ messages found
+    pub going-all : c ≡ plan .p
+        → Leaves plan left count (after plan points word curve₀ chosen₀ left) curve₀ curve chosen₀ chosen messages₀ messages found
     going-all e = rw after-each (rw e at (g .leaves))
 
--- what opens with c
-module _ {plan : Plan} {points word curve chosen : List ℕ} {i c : ℕ} (s : Searches plan points word curve chosen i) (h : c < plan .p) where
-  abbrev chosen₁ : List ℕ
-  chosen₁ = set chosen i c
+  -- what opens with c
+  module _ {c : ℕ} (h : c < plan .p) where
+    abbrev chosen₁ : List ℕ
+    chosen₁ = set chosen₀ i c
 
-  front-one : take (suc i) chosen₁ ≡ take i chosen ++ (c ∷ [])
-  front-one = let n = s .next in let l = s .long in take-suc-set chosen i c (omega arith)
+    front-one : take (suc i) chosen₁ ≡ take i chosen₀ ++ (c ∷ [])
+    front-one = let n = next-below in let l = s .long in take-suc-set chosen₀ i c (omega arith)
 
-  spelt-one : Spelt (plan .p) (suc i) (take (suc i) chosen₁)
-  spelt-one = rw front-one (spelt-snoc (s .spelt) h)
+    spelt-one : Spelt (plan .p) (suc i) (take (suc i) chosen₁)
+    spelt-one = rw front-one (spelt-snoc (s .spelt) h)
 
-  pub front-kept : take i chosen₁ ≡ take i chosen
-  front-kept = take-set-le i chosen i c (omega arith)
+    pub front-kept : take i chosen₁ ≡ take i chosen₀
+    front-kept = take-set-le i chosen₀ i c (omega arith)
 
-  -- the last symbol
-  pub spelt-last : suc i ≡ plan .k → Spelt (plan .p) (plan .k) (take (plan .k) chosen₁)
-  spelt-last e = subst (λ (n : ℕ). Spelt (plan .p) n (take n chosen₁)) e spelt-one
+    -- the last symbol
+    last : left ≡ 1 → suc i ≡ plan .k
+    last e = let m = s .most in omega arith
 
-  pub with-last : suc i ≡ plan .k → kept plan points word chosen₁ ≡ with plan points word curve chosen i c
-  with-last e =
-      let y : take (plan .k) chosen₁ ≡ take i chosen ++ (c ∷ []) = ap (λ (n : ℕ). take n chosen₁) (sym e) ∙ front-one in
-      let z : plan .k - suc i ≡ 0 = omega arith in
-      rw (y, z)
-      (sym (level-zero (taskFor plan points word) (suc (plan .l)) (suc (plan .width)) (take i chosen ++ (c ∷ []))
-      (choice (symbols (plan .p) .ring) (suc (plan .l)) (length (take i chosen)) (symbol (plan .p) c) (curveOf plan curve))))
+    pub spelt-last : left ≡ 1 → Spelt (plan .p) (plan .k) (take (plan .k) chosen₁)
+    spelt-last e = subst (λ (n : ℕ). Spelt (plan .p) n (take n chosen₁)) (last e) spelt-one
 
-  -- any other
-  module _ {curve₁ : List ℕ} (shift : Shifted plan i c curve curve₁) where
-    pub with-next : after plan points word curve₁ chosen₁ (suc i) ≡ with plan points word curve chosen i c
-    with-next = rw (front-one, shift .curve, s .spelt .long)
+    pub with-last : left ≡ 1 → kept plan points word chosen₁ ≡ with plan points word curve₀ chosen₀ left c
+    with-last e =
+        let y : take (plan .k) chosen₁ ≡ take i chosen₀ ++ (c ∷ []) = ap (λ (n : ℕ). take n chosen₁) (sym (last e)) ∙ front-one in
+        let z : left - 1 ≡ 0 = omega arith in
+        rw (y, z)
+        (sym (level-zero (taskFor plan points word) (suc (plan .l)) (suc (plan .width)) (take i chosen₀ ++ (c ∷ []))
+        (choice (symbols (plan .p) .ring) (suc (plan .l)) (length (take i chosen₀)) (symbol (plan .p) c) (curveOf plan curve₀))))
 
-    pub next-searches : suc i < plan .k → Searches plan points word curve₁ chosen₁ (suc i)
-    next-searches n =
-        record {
-          received = s .received;
-          laid = shift .laid;
-          next = n;
-          long = rw (length-set chosen i c) (s .long);
-          spelt = spelt-one;
-        }
+    -- any other
+    module _ {curve₁ : List ℕ} (shift : Shifted plan i c curve₀ curve₁) where
+      pub with-next : after plan points word curve₁ chosen₁ (left - 1) ≡ with plan points word curve₀ chosen₀ left c
+      with-next = rw (next-up, front-one, shift .curve, s .spelt .long)
 
-    module _ {curve₂ chosen₂ messages messages₂ : List ℕ} {count r : ℕ}
-        (next : Leaves plan (suc i) count (after plan points word curve₁ chosen₁ (suc i)) curve₁ curve₂ chosen₁ chosen₂ messages messages₂ r)
-        {n : ℕ} (less : n ≡ negByte (plan .p) c) where
-      pub back-tries : Tries plan i n curve₂
-      back-tries = record { laid = rw (next .same) (shift .laid); next = s .next; small = rw less (negByte-below (s .received .size) c) }
-
-      pub back-leaves : {curve₃ : List ℕ} → Shifted plan i n curve₂ curve₃
-          → Leaves plan i count (with plan points word curve chosen i c) curve curve₃ chosen chosen₂ messages messages₂ r
-      back-leaves back =
+      pub next-searches : 1 < left → Searches plan points word curve₁ chosen₁ (left - 1)
+      next-searches n =
           record {
-            same = shifted-back (s .laid) shift (rw (less, next .same) at back);
-            front = sym (take-take i (suc i) chosen₂ (omega arith)) ∙ ap (take i) (next .front) ∙ take-take i (suc i) chosen₁ (omega arith)
-                ∙ front-kept;
-            wrote = rw with-next at (next .wrote);
+            received = s .received;
+            laid = shift .laid;
+            some = omega arith;
+            most = let m = s .most in omega arith;
+            long = rw (length-set chosen₀ i c) (s .long);
+            spelt = rw next-up spelt-one;
           }
+
+      module _ {curve₂ chosen₂ messages messages₂ : List ℕ} {count r : ℕ}
+          (rest : Leaves plan (left - 1) count (after plan points word curve₁ chosen₁ (left - 1)) curve₁ curve₂ chosen₁ chosen₂ messages messages₂ r)
+          {n : ℕ} (less : n ≡ negByte (plan .p) c) where
+        pub back-tries : Tries plan i n curve₂
+        back-tries =
+            record { laid = rw (rest .same) (shift .laid); next = next-below; small = rw less (negByte-below (s .received .size) c) }
+
+        pub back-leaves : {curve₃ : List ℕ} → Shifted plan i n curve₂ curve₃
+            → Leaves plan left count (with plan points word curve₀ chosen₀ left c) curve₀ curve₃ chosen₀ chosen₂ messages messages₂ r
+        back-leaves back =
+            record {
+              same = shifted-back (s .laid) shift (rw (less, rest .same) at back);
+              front = sym (take-take i (suc i) chosen₂ (omega arith)) ∙ ap (take i) (rw next-up at (rest .front))
+                  ∙ take-take i (suc i) chosen₁ (omega arith) ∙ front-kept;
+              wrote = rw with-next at (rest .wrote);
+            }
 
 -- the whole search, on the plan that is made of a request
 module _ {plan request : Plan} (is : plan ≡ request) {points word curve messages : List ℕ} (asked : Runs request points word curve messages) where
   runs : Runs plan points word curve messages
   runs = rw is asked
 
-  pub first-searches : {chosen : List ℕ} → plan .k ≤ length chosen → Searches plan points word curve chosen 0
-  first-searches l = record { received = runs .received; laid = runs .laid; next = runs .received .some; long = l; spelt = spelt-nil }
+  first : plan .k - plan .k ≡ 0
+  first = omega arith
+
+  pub first-searches : {chosen : List ℕ} → plan .k ≤ length chosen → Searches plan points word curve chosen (plan .k)
+  first-searches l =
+      record {
+        received = runs .received;
+        laid = runs .laid;
+        some = runs .received .some;
+        most = omega arith;
+        long = l;
+        spelt = rw first spelt-nil;
+      }
 
   -- whatever `chosen` holds, none of it counts yet
-  first-after : after plan points word curve [] 0 ≡ foundOn plan points word curve
-  first-after = let e : plan .k - 0 ≡ plan .k = omega arith in rw e
+  first-after : (chosen : List ℕ) → after plan points word curve chosen (plan .k) ≡ foundOn plan points word curve
+  first-after chosen = rw first
 
-  pub first-room : Room plan 0 (after plan points word curve [] 0) messages
-  first-room =
+  pub first-room : (chosen : List ℕ) → Room plan 0 (after plan points word curve chosen (plan .k)) messages
+  first-room chosen =
       let r = runs .room in
       let a : length (foundOn plan points word curve) * plan .k ≤ plan .l * plan .k = mul-le-mul-right (plan .k) (runs .few) in
-      record { enough = rw (first-after, zero-add (length (foundOn plan points word curve))) (omega arith) }
+      record { enough = rw (first-after chosen, zero-add (length (foundOn plan points word curve))) (omega arith) }
 
   module _ {curve′ chosen chosen′ messages′ : List ℕ} {r : ℕ}
-      (leaves : Leaves plan 0 0 (after plan points word curve [] 0) curve curve′ chosen chosen′ messages messages′ r) where
+      (leaves : Leaves plan (plan .k) 0 (after plan points word curve chosen (plan .k)) curve curve′ chosen chosen′ messages messages′ r) where
     abbrev list : List (List ℕ)
     list = foundOn plan points word curve
 
     total : r ≡ length list
-    total = leaves .wrote .total ∙ rw first-after (zero-add (length list))
+    total = leaves .wrote .total ∙ rw (first-after chosen) (zero-add (length list))
 
     written : messages′ ≡ sets messages 0 (flat list)
-    written = leaves .wrote .written ∙ rw (first-after, zero-mul (plan .k))
+    written = leaves .wrote .written ∙ rw (first-after chosen, zero-mul (plan .k))
 
     pub few : r ≤ request .l
     few = let t = total in let f = runs .few in rw (← is) (omega arith)

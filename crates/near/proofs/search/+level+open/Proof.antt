@@ -2,14 +2,13 @@ use borrow.Author.Needs.{needs}
 use mathlib.Core.Path.{_≡_, refl, ap, _∙_}
 use mathlib.Core.Logic.{⊎-elim}
 use Prim.Native.Nat.{ℕ, suc, _+_, _-_, _<_}
-use native.Mathlib.Numerals.{add-one}
 use native.Mathlib.Omega.{arith}
 use lib.ListN.{length, length-set}
 use Rattle.field.specs.Symbols.{symbols}
 use Rattle.near.specs.Search.{lowest}
 use Rattle.near.specs.Work.{curveOf}
 use Rattle.near.proofs.search.Levels.{Going, going-none, going-searches, going-messages, going-all, fitting, failing, opens, grown, passed}
-use Rattle.near.proofs.search.Levels.{spelt-last, front-kept, with-last, with-next, next-searches, back-tries, back-leaves}
+use Rattle.near.proofs.search.Levels.{next-below, spelt-last, front-kept, with-last, with-next, next-searches, back-tries, back-leaves}
 use borrow.Fn.Kinds.{In, Out}
 use borrow.Fn.PlainCycle.{Measures, is, falls, and}
 use Rattle.near.proofs.search.+level+open.{statement}
@@ -27,10 +26,10 @@ use Rattle.near.proofs.search.shift.Reads as shift-reads
 use Rattle.near.proofs.search.+level+open.Tie.{close}
 
 abbrev μ-level : Measures 5 level-kinds.ps ℕ
-μ-level κs a = let left = a .1 .1 .1 .1 .1 .0 .k - a .1 .1 .1 .1 .1 .1 .0 in left + left
+μ-level κs a = let left = a .1 .1 .1 .1 .1 .1 .0 in left + left + 1
 
 abbrev μ-open : Measures 5 open-kinds.ps ℕ
-μ-open κs a = let left = a .1 .1 .1 .1 .1 .0 .k - (a .1 .1 .1 .1 .1 .1 .0 + 1) in left + left + 1
+μ-open κs a = let left = a .1 .1 .1 .1 .1 .1 .0 in left + left
 
 abbrev level-at : ℕ → In 5 level-kinds.ps
 level-at t = and 5 level-kinds.ps (is 5 level-kinds.ps μ-level t) level.Pre
@@ -63,56 +62,51 @@ open-calls t = (
 )
 
 abbrev level-Inv-loop : level-lts.InvT-loop
-level-Inv-loop curve₀ chosen₀ points word messages₀ plan i count low found₀ c₀ curve chosen messages found c =
-    Going plan points word curve₀ chosen₀ messages₀ i count curve chosen messages found c
-    × (low ≡ lowest (symbols (plan .p)) (suc (plan .l)) (suc (plan .width)) i (curveOf plan curve₀))
+level-Inv-loop curve₀ chosen₀ points word messages₀ plan left count i low found₀ c₀ curve chosen messages found c =
+    Going plan points word curve₀ chosen₀ messages₀ left count curve chosen messages found c
+    × (low ≡ lowest (symbols (plan .p)) (suc (plan .l)) (suc (plan .width)) (plan .k - left) (curveOf plan curve₀))
 
 abbrev level-μ-loop : level-lts.MeasureT-loop
-level-μ-loop curve₀ chosen₀ points word messages₀ plan i count low found₀ c₀ curve chosen messages found c =
+level-μ-loop curve₀ chosen₀ points word messages₀ plan left count i low found₀ c₀ curve chosen messages found c =
     plan .p - c
 
--- src/search.rt:181:9
+level-sub-i : (t : ℕ) → level-lts.Need-sub-i (level-calls t) (level-at t) level.Post level-Inv-loop level-μ-loop
+level-sub-i t c = search needs
+
 level-lowest-requires : (t : ℕ) → level-lts.Need-lowest-requires (level-calls t) (level-at t) level.Post level-Inv-loop level-μ-loop
 level-lowest-requires t c κs = search needs
 
--- src/search.rt:184:5
 level-loop-holds : (t : ℕ) → level-lts.Need-loop-holds (level-calls t) (level-at t) level.Post level-Inv-loop level-μ-loop
 level-loop-holds t c =
-    let s = c .before .before .before .before .before .before .before in
+    let s = c .before .before .before .before .before .before .before .before in
     (going-none (s .pre .1 .0), c .lowest .ensures)
 
--- src/search.rt:185:12
 level-fits-requires : (t : ℕ) → level-lts.Need-fits-requires (level-calls t) (level-at t) level.Post level-Inv-loop level-μ-loop
 level-fits-requires t c κs =
     let l = c .before .before .before in
-    let s = l .before .before .before .before .before .before .before .before in
+    let s = l .before .before .before .before .before .before .before .before .before in
     let g = going-searches (s .pre .1 .0) (l .loop .inv .0) in
-    record { laid = g .laid; next = g .next; small = c .before .if1 .taken }
+    record { laid = g .laid; next = next-below g; small = c .before .if1 .taken }
 
--- src/search.rt:186:13
 level-open-requires : (t : ℕ) → level-lts.Need-open-requires (level-calls t) (level-at t) level.Post level-Inv-loop level-μ-loop
 level-open-requires t c κs =
     let l = c .before .before .before .before .before .before .before .before in
-    let s = l .before .before .before .before .before .before .before .before in
+    let s = l .before .before .before .before .before .before .before .before .before in
     let g = l .loop .inv .0 in
     let h = c .before .before .before .before .before .before .if1 .taken in
-    let n = s .pre .1 .0 .next in
     let e = fitting (s .pre .1 .0) g (l .loop .inv .1) (c .before .before .before .before .fits2 .ensures) (c .before .before .before .if2 .taken) in
     (omega (arith, s .pre .0), (going-searches (s .pre .1 .0) g, (h, opens (s .pre .1 .0) g h e (s .pre .1 .1))))
 
--- src/search.rt:188:9
 level-add-c : (t : ℕ) → level-lts.Need-add-c (level-calls t) (level-at t) level.Post level-Inv-loop level-μ-loop
 level-add-c t c = search needs
 
--- src/search.rt:184:5
 level-loop-less : (t : ℕ) → level-lts.Need-loop-less (level-calls t) (level-at t) level.Post level-Inv-loop level-μ-loop
 level-loop-less t c = search needs
 
--- src/search.rt:184:5
 level-loop-again : (t : ℕ) → level-lts.Need-loop-again (level-calls t) (level-at t) level.Post level-Inv-loop level-μ-loop
 level-loop-again t c =
     let l = c .before .before .before .before .before in
-    let s = l .before .before .before .before .before .before .before .before in
+    let s = l .before .before .before .before .before .before .before .before .before in
     let g = l .loop .inv .0 in
     let h = c .before .before .before .if1 .taken in
     let fit = c .before .fits2 .ensures in
@@ -125,87 +119,71 @@ level-loop-again t c =
     (λ w. (rw (w .1, w .2, w .3, w .4) (passed (s .pre .1 .0) g h (failing (s .pre .1 .0) g (l .loop .inv .1) fit (w .0 .left))), l .loop .inv .1))
     (c .if2 .came)
 
--- src/search.rt:176:1
 level-same-length : (t : ℕ) → level-lts.Need-same-length (level-calls t) (level-at t) level.Post level-Inv-loop level-μ-loop
 level-same-length t c =
     ap length (c .before .before .loop .inv .0 .leaves .same)
 
--- src/search.rt:176:1
 level-same-length-2 : (t : ℕ) → level-lts.Need-same-length-2 (level-calls t) (level-at t) level.Post level-Inv-loop level-μ-loop
 level-same-length-2 t c = c .before .before .loop .inv .0 .long
 
--- src/search.rt:176:1
 level-same-length-3 : (t : ℕ) → level-lts.Need-same-length-3 (level-calls t) (level-at t) level.Post level-Inv-loop level-μ-loop
 level-same-length-3 t c =
     let l = c .before .before in
-    going-messages (l .before .before .before .before .before .before .before .before .pre .1 .0) (l .loop .inv .0)
+    going-messages (l .before .before .before .before .before .before .before .before .before .pre .1 .0) (l .loop .inv .0)
 
--- src/search.rt:176:1
 level-returns : (t : ℕ) → level-lts.Need-returns (level-calls t) (level-at t) level.Post level-Inv-loop level-μ-loop
 level-returns t c =
     let l = c .before .before in
-    let s = l .before .before .before .before .before .before .before .before in
+    let s = l .before .before .before .before .before .before .before .before .before in
     let g = l .loop .inv .0 in
     let e : l .loop .c ≡ s .args .plan .p = omega (arith, g .upto) in
     going-all (s .pre .1 .0) g e
 
--- src/search.rt:201:5
+open-sub-i : (t : ℕ) → open-lts.Need-sub-i (open-calls t) (open-at t) open.Post
+open-sub-i t c = search needs
+
 open-slice-write-chosen : (t : ℕ) → open-lts.Need-slice-write-chosen (open-calls t) (open-at t) open.Post
 open-slice-write-chosen t c = search needs
 
--- src/search.rt:202:8
-open-add-if1 : (t : ℕ) → open-lts.Need-add-if1 (open-calls t) (open-at t) open.Post
-open-add-if1 t c = search needs
-
--- src/search.rt:203:9
 open-keep-requires : (t : ℕ) → open-lts.Need-keep-requires (open-calls t) (open-at t) open.Post
 open-keep-requires t c κs =
     let s = c .before .before .before .before .before .before .before .before .before in
     let a = s .pre .1 in
-    let e : suc (s .args .i) ≡ s .args .plan .k = omega (arith, c .before .before .if1 .taken) in
+    let e = c .before .before .if1 .taken in
     (a .0 .received, (spelt-last (a .0) (a .1 .0) e, rw (with-last (a .0) (a .1 .0) e) (a .1 .1)))
 
--- src/search.rt:203:9
 open-same-length : (t : ℕ) → open-lts.Need-same-length (open-calls t) (open-at t) open.Post
 open-same-length t c = search needs
 
--- src/search.rt:203:9
 open-same-length-2 : (t : ℕ) → open-lts.Need-same-length-2 (open-calls t) (open-at t) open.Post
 open-same-length-2 t c = search needs
 
--- src/search.rt:203:9
 open-returns : (t : ℕ) → open-lts.Need-returns (open-calls t) (open-at t) open.Post
 open-returns t c =
     let s = c .before .before .before .before .before .before .before .before .before .before .before .before in
     let a = s .pre .1 in
-    let e : suc (s .args .i) ≡ s .args .plan .k = omega (arith, c .before .before .before .before .before .if1 .taken) in
+    let e = c .before .before .before .before .before .if1 .taken in
     record { same = refl; front = front-kept (a .0) (a .1 .0); wrote = rw (with-last (a .0) (a .1 .0) e) at (c .before .before .keep .ensures) }
 
--- src/search.rt:205:5
 open-shift-requires : (t : ℕ) → open-lts.Need-shift-requires (open-calls t) (open-at t) open.Post
 open-shift-requires t c κs = search needs
 
--- src/search.rt:206:68
-open-add-level : (t : ℕ) → open-lts.Need-add-level (open-calls t) (open-at t) open.Post
-open-add-level t c = search needs
+open-sub-level : (t : ℕ) → open-lts.Need-sub-level (open-calls t) (open-at t) open.Post
+open-sub-level t c = search needs
 
--- src/search.rt:206:9
 open-level-requires : (t : ℕ) → open-lts.Need-level-requires (open-calls t) (open-at t) open.Post
 open-level-requires t c κs =
     let s = c .before .before .before .before .before .before .before .before .before .before .before .before .before .before in
     let a = s .pre .1 in
-    let n : suc (s .args .i) < s .args .plan .k = omega (arith, a .0 .next, c .before .before .before .before .before .before .before .if1 .left) in
-    let shift = c .before .before .before .before .before .shift .ensures in
-    rw (add-one (s .args .i)) (
+    let n : 1 < s .args .left = omega (arith, a .0 .some, c .before .before .before .before .before .before .before .if1 .left) in
+    let shift = c .before .before .before .before .before .shift .ensures in (
       omega (arith, s .pre .0),
       (next-searches (a .0) (a .1 .0) shift n, record { enough = rw (with-next (a .0) (a .1 .0) shift) (a .1 .1 .enough) }),
     )
 
--- src/search.rt:207:27
 open-negative-requires : (t : ℕ) → open-lts.Need-negative-requires (open-calls t) (open-at t) open.Post
 open-negative-requires t c κs = search needs
 
--- src/search.rt:207:5
 open-shift-requires-2 : (t : ℕ) → open-lts.Need-shift-requires-2 (open-calls t) (open-at t) open.Post
 open-shift-requires-2 t c κs =
     let s =
@@ -214,26 +192,22 @@ open-shift-requires-2 t c κs =
     let a = s .pre .1 in
     back-tries (a .0) (a .1 .0)
     (c .before .before .before .before .before .before .before .before .before .before .before .before .before .before .shift .ensures)
-    (rw (add-one (s .args .i)) at (c .before .before .before .before .before .before .before .before .level .ensures)) (c .negative .ensures)
+    (c .before .before .before .before .before .before .before .before .level .ensures) (c .negative .ensures)
 
--- src/search.rt:194:1
 open-same-length-3 : (t : ℕ) → open-lts.Need-same-length-3 (open-calls t) (open-at t) open.Post
 open-same-length-3 t c = search needs
 
--- src/search.rt:194:1
 open-same-length-4 : (t : ℕ) → open-lts.Need-same-length-4 (open-calls t) (open-at t) open.Post
 open-same-length-4 t c =
     let s =
     c .before .before .before .before .before .before .before .before .before .before .before .before .before .before .before .before .before
     .before .before .before .before .before .before .before .before .before in
     c .before .before .before .before .before .before .before .before .before .before .before .level .kept .1 .0
-    ∙ length-set (s .args .chosen .now) (s .args .i) (s .args .c)
+    ∙ length-set (s .args .chosen .now) (s .args .plan .k - s .args .left) (s .args .c)
 
--- src/search.rt:194:1
 open-same-length-5 : (t : ℕ) → open-lts.Need-same-length-5 (open-calls t) (open-at t) open.Post
 open-same-length-5 t c = search needs
 
--- src/search.rt:194:1
 open-returns-2 : (t : ℕ) → open-lts.Need-returns-2 (open-calls t) (open-at t) open.Post
 open-returns-2 t c =
     let s =
@@ -242,8 +216,7 @@ open-returns-2 t c =
     let a = s .pre .1 in
     back-leaves (a .0) (a .1 .0)
     (c .before .before .before .before .before .before .before .before .before .before .before .before .before .before .before .before .before
-    .shift .ensures) (rw (add-one (s .args .i)) at
-    (c .before .before .before .before .before .before .before .before .before .before .before .level .ensures))
+    .shift .ensures) (c .before .before .before .before .before .before .before .before .before .before .before .level .ensures)
     (c .before .before .before .negative .ensures) (c .before .before .shift2 .ensures)
 
 pub +level+open-spec : {M : Type 1} → statement M
@@ -252,6 +225,7 @@ pub +level+open-spec : {M : Type 1} → statement M
     level.Post
     level-Inv-loop
     level-μ-loop
+    (level-sub-i t)
     (level-lowest-requires t)
     (level-loop-holds t)
     (level-fits-requires t)
@@ -266,14 +240,14 @@ pub +level+open-spec : {M : Type 1} → statement M
     λ t. open-lts.spec (open-calls t)
     (open-at t)
     open.Post
+    (open-sub-i t)
     (open-slice-write-chosen t)
-    (open-add-if1 t)
     (open-keep-requires t)
     (open-same-length t)
     (open-same-length-2 t)
     (open-returns t)
     (open-shift-requires t)
-    (open-add-level t)
+    (open-sub-level t)
     (open-level-requires t)
     (open-negative-requires t)
     (open-shift-requires-2 t)

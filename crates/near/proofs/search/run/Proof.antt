@@ -16,7 +16,7 @@ level-requires c κs =
     let s = c .before .before .before .before .before .before .before .before in
     let e = c .before .before .before .plan-of .ensures in
     let h = s .pre .1 .laid .fine .lift in
-    (first-searches e (s .pre .1) (rw e (omega arith)), first-room e (s .pre .1))
+    (first-searches e (s .pre .1) (rw e (omega arith)), first-room e (s .pre .1) _)
 
 cast-result : tie.Need-cast-result
 cast-result c =
