@@ -176,17 +176,17 @@ module _ {p : ℕ} {points word : List ℕ} {k m l t : ℕ} {room cleared messag
   Φ : FieldLaws (symbols p)
   Φ = symbols-field p (a .places .size)
 
-  light : Under R (k - 1) (suc (plan .width)) zero Q
+  light : Under R (k - 1) (suc (plan .shape .width)) zero Q
   light =
       let s = f .smallest in
       let w = smallest-weight Φ (places-distinct (a .places)) (a .heights .order) s in
-      under-mono R (k - 1) (s .weight) (suc (s .power)) (suc (plan .width)) zero Q (omega arith) (λ h. absurd (omega arith)) (s .lead .rest)
+      under-mono R (k - 1) (s .weight) (suc (s .power)) (suc (plan .shape .width)) zero Q (omega arith) (λ h. absurd (omega arith)) (s .lead .rest)
 
-  curve-is : curveOf plan bytes ≡ Q
-  curve-is = holds-curve plan bytes Q (f .bytes) (f .smallest .member .height) light
+  curve-is : curveOf (plan .shape) bytes ≡ Q
+  curve-is = holds-curve (plan .shape) bytes Q (f .bytes) (f .smallest .member .height) light
 
-  laid : Laid plan bytes
-  laid = holds-laid plan bytes Q (f .bytes) (f .smallest .member .height) light (good-fine (accepted-note a)) (rw (f .long) enough)
+  laid : Laid (plan .shape) bytes
+  laid = holds-laid (plan .shape) bytes Q (f .bytes) (f .smallest .member .height) light (good-fine (accepted-note a)) (rw (f .long) enough)
 
   -- the curve's weight is at hand as the byte that interpolation gives
   module _ (vouched : back .weight < m * t) where
@@ -194,12 +194,12 @@ module _ {p : ℕ} {points word : List ℕ} {k m l t : ℕ} {room cleared messag
     above = rw (f .weight-is) at vouched
 
     abbrev list : List (List ℕ)
-    list = found (taskFor plan points word) (suc l) (suc (plan .width)) Q
+    list = found (taskFor plan points word) (suc l) (suc (plan .shape .width)) Q
 
     exactly : IsList (taskOf p points word k t) list
     exactly =
         search-is-list Φ (taskOf p points word k t) (symbols-numbered (a .places .size)) (places-distinct (a .places)) (f .smallest .member)
-        (f .smallest .lead) above (suc (plan .width))
+        (f .smallest .lead) above (suc (plan .shape .width))
 
     few : length list ≤ l
     few = list-at-most Φ (taskOf p points word k t) (symbols-numbered (a .places .size)) (places-distinct (a .places)) (f .smallest .member)
@@ -211,7 +211,7 @@ module _ {p : ℕ} {points word : List ℕ} {k m l t : ℕ} {room cleared messag
         record {
           received =
               record {
-                some = omega arith;
+                degree = omega arith;
                 size = a .places .size;
                 same = a .places .same;
                 points-below = a .places .points-below;
@@ -223,7 +223,7 @@ module _ {p : ℕ} {points word : List ℕ} {k m l t : ℕ} {room cleared messag
         }
 
     pub search-lists : {after : List ℕ} {r : ℕ}
-        → Ran k (found (taskFor plan points word) (suc l) (suc (plan .width)) (curveOf plan bytes)) messages after r
+        → Ran k (found (taskFor plan points word) (suc l) (suc (plan .shape .width)) (curveOf (plan .shape) bytes)) messages after r
         → Lists p points word k m l t (f .smallest .weight) messages after
         (record { number = 0; count = r; updates = back .updates; weight = back .weight })
     search-lists {after} {r} ran = go (rw curve-is at ran)

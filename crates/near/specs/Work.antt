@@ -1,13 +1,12 @@
 -- What the functions of the search ask and give. Their curve lies in bytes as a row does; a level gives these bytes back as they were.
---   planShape plan          the numbers by which the curve's bytes are read
---   curveOf plan xs         the curve that the bytes xs are
---   sliceOf plan xs i v     the coefficient of x^v in that curve at y = x^i y, as a polynomial in y
---   RootAt plan xs i v c    c is a root of it
---   Laid plan xs            they are a curve of which no term weighs more than the width, each coefficient below p
---   Tries plan i c xs       the curve is laid, and c is tried as the symbol at x^i
---   Lifted plan i c j q xs ys   each of the slots from j to q - 1 took c x^i times the slot above, as it was
---   Shifted plan i c xs ys  the bytes ys are what the curve becomes when c is chosen as the symbol at x^i; no other byte is written
---   Received plan points word   messages are not empty; points and symbols are below p, and as many
+--   curveOf S xs            the curve that the bytes xs are
+--   sliceOf S xs i v        the coefficient of x^v in that curve at y = x^i y, as a polynomial in y
+--   RootAt S xs i v c       c is a root of it
+--   Laid S xs               they are a curve of which no term weighs more than the width, each coefficient below p
+--   Tries S i c xs          the curve is laid, and c is tried as the symbol at x^i
+--   Lifted S i c j q xs ys  each of the slots from j to q - 1 took c x^i times the slot above, as it was
+--   Shifted S i c xs ys     the bytes ys are what the curve becomes when c is chosen as the symbol at x^i; no other byte is written
+--   Received plan points word   k is one more than u; points and symbols are below p, and as many
 --   taskFor plan points word  the task that they set
 --   after                   the messages found that begin with the first k - left bytes of `chosen`, on the curve that they leave
 --   with                    those of them that go on with c
@@ -36,7 +35,7 @@ use Rattle.poly.specs.Buffers.{AllBelow}
 use Rattle.poly.specs.Limits.{workingRoom}
 use Rattle.poly.specs.Lent.{Untouched}
 use Rattle.curves.specs.Curves.{Curve, Under}
-use Rattle.rows.specs.Bytes.{width, shape, curveBytes, rowsOf, HoldsCurve}
+use Rattle.rows.specs.Bytes.{shape, curveBytes, rowsOf, HoldsCurve}
 use Rattle.rows.specs.Work.{Fine}
 use Rattle.rows.specs.Jobs.{TheCurve}
 use Rattle.rows.specs.declared.Shape.{Shape}
@@ -46,58 +45,56 @@ use Rattle.near.specs.Search.{chosen, slice, level, opened, found}
 use Rattle.near.specs.declared.Weighed.{Weighed}
 use Rattle.near.specs.declared.search.Plan.{Plan}
 
-abbrev pub planShape : Plan → Shape
-planShape plan = record { p = plan .p; u = plan .k - 1; width = plan .width; l = plan .l }
+abbrev pub curveOf : (S : Shape) → List ℕ → Curve (symbols (S .p) .ring)
+curveOf S xs = rowsOf S xs 0
 
-abbrev pub curveOf : (plan : Plan) → List ℕ → Curve (symbols (plan .p) .ring)
-curveOf plan xs = rowsOf (planShape plan) xs 0
+abbrev pub sliceOf : (S : Shape) → List ℕ → ℕ → ℕ → Seq (symbols (S .p) .ring)
+sliceOf S xs i v = slice (symbols (S .p) .ring) i v (curveOf S xs)
 
-abbrev pub sliceOf : (plan : Plan) → List ℕ → ℕ → ℕ → Seq (symbols (plan .p) .ring)
-sliceOf plan xs i v = slice (symbols (plan .p) .ring) i v (curveOf plan xs)
+abbrev pub RootAt : (S : Shape) → List ℕ → ℕ → ℕ → ℕ → Type 0
+RootAt S xs i v c = value (symbols (S .p) .ring) (symbol (S .p) c) (suc (S .l)) (sliceOf S xs i v) ≡ symbol (S .p) 0
 
-abbrev pub RootAt : (plan : Plan) → List ℕ → ℕ → ℕ → ℕ → Type 0
-RootAt plan xs i v c = value (symbols (plan .p) .ring) (symbol (plan .p) c) (suc (plan .l)) (sliceOf plan xs i v) ≡ symbol (plan .p) 0
+pub record Laid (S : Shape) (xs : List ℕ) : Type 0 where
+  pub fine : Fine S
+  pub room : curveBytes S ≤ length xs
+  pub below : (q : ℕ) → q < curveBytes S → getD xs q 0 < S .p
+  pub light : Under (symbols (S .p) .ring) (S .u) (suc (S .width)) 0 (curveOf S xs)
 
-pub record Laid (plan : Plan) (xs : List ℕ) : Type 0 where
-  pub fine : Fine (planShape plan)
-  pub room : curveBytes (planShape plan) ≤ length xs
-  pub below : (q : ℕ) → q < curveBytes (planShape plan) → getD xs q 0 < plan .p
-  pub light : Under (symbols (plan .p) .ring) (plan .k - 1) (suc (plan .width)) 0 (curveOf plan xs)
+pub record Tries (S : Shape) (i c : ℕ) (xs : List ℕ) : Type 0 where
+  pub laid : Laid S xs
+  pub next : i ≤ S .u
+  pub small : c < S .p
 
-pub record Tries (plan : Plan) (i c : ℕ) (xs : List ℕ) : Type 0 where
-  pub laid : Laid plan xs
-  pub next : i < plan .k
-  pub small : c < plan .p
-
-pub record Lifted (plan : Plan) (i c j q : ℕ) (xs ys : List ℕ) : Type 0 where
-  pub laid : Laid plan ys
+pub record Lifted (S : Shape) (i c j q : ℕ) (xs ys : List ℕ) : Type 0 where
+  pub laid : Laid S ys
   pub slots : (a e : ℕ) → j ≤ a → a < q → i ≤ e
-      → curveOf plan ys a e ≡ sumOf (plan .p) (curveOf plan xs a e) (productOf (plan .p) (symbol (plan .p) c) (curveOf plan xs (suc a) (e - i)))
-  pub others : (a e : ℕ) → (a < j) ⊎ ((q ≤ a) ⊎ (e < i)) → curveOf plan ys a e ≡ curveOf plan xs a e
-  pub rest : Untouched (curveBytes (planShape plan)) xs ys
+      → curveOf S ys a e ≡ sumOf (S .p) (curveOf S xs a e) (productOf (S .p) (symbol (S .p) c) (curveOf S xs (suc a) (e - i)))
+  pub others : (a e : ℕ) → (a < j) ⊎ ((q ≤ a) ⊎ (e < i)) → curveOf S ys a e ≡ curveOf S xs a e
+  pub rest : Untouched (curveBytes S) xs ys
 
-pub record Shifted (plan : Plan) (i c : ℕ) (xs ys : List ℕ) : Type 0 where
-  pub laid : Laid plan ys
-  pub curve : curveOf plan ys ≡ chosen (symbols (plan .p) .ring) (suc (plan .l)) i (symbol (plan .p) c) (curveOf plan xs)
-  pub rest : Untouched (curveBytes (planShape plan)) xs ys
+pub record Shifted (S : Shape) (i c : ℕ) (xs ys : List ℕ) : Type 0 where
+  pub laid : Laid S ys
+  pub curve : curveOf S ys ≡ chosen (symbols (S .p) .ring) (suc (S .l)) i (symbol (S .p) c) (curveOf S xs)
+  pub rest : Untouched (curveBytes S) xs ys
 
 pub record Received (plan : Plan) (points word : List ℕ) : Type 0 where
-  pub size : Listed (plan .p)
-  pub some : 0 < plan .k
+  pub size : Listed (plan .shape .p)
+  pub degree : plan .k ≡ suc (plan .shape .u)
   pub same : length word ≡ length points
-  pub points-below : AllBelow (plan .p) points
-  pub word-below : AllBelow (plan .p) word
+  pub points-below : AllBelow (plan .shape .p) points
+  pub word-below : AllBelow (plan .shape .p) word
 
 module _ (plan : Plan) (points word : List ℕ) where
-  abbrev pub taskFor : Task (symbols (plan .p))
-  taskFor = taskOf (plan .p) points word (plan .k) (plan .t)
+  abbrev pub taskFor : Task (symbols (plan .shape .p))
+  taskFor = taskOf (plan .shape .p) points word (plan .k) (plan .t)
 
   abbrev pub after : (curve chosen : List ℕ) → ℕ → List (List ℕ)
-  after curve chosen left = level taskFor (suc (plan .l)) (suc (plan .width)) left (take (plan .k - left) chosen) (curveOf plan curve)
+  after curve chosen left =
+      level taskFor (suc (plan .shape .l)) (suc (plan .shape .width)) left (take (plan .k - left) chosen) (curveOf (plan .shape) curve)
 
   abbrev pub with : (curve chosen : List ℕ) → ℕ → ℕ → List (List ℕ)
   with curve chosen left c =
-      opened taskFor (suc (plan .l)) (suc (plan .width)) (left - 1) (take (plan .k - left) chosen) (curveOf plan curve) c
+      opened taskFor (suc (plan .shape .l)) (suc (plan .shape .width)) (left - 1) (take (plan .k - left) chosen) (curveOf (plan .shape) curve) c
 
   abbrev pub kept : List ℕ → List (List ℕ)
   kept chosen =
@@ -105,11 +102,11 @@ module _ (plan : Plan) (points word : List ℕ) where
 
   pub record Searches (curve chosen : List ℕ) (left : ℕ) : Type 0 where
     pub received : Received plan points word
-    pub laid : Laid plan curve
+    pub laid : Laid (plan .shape) curve
     pub some : 0 < left
     pub most : left ≤ plan .k
     pub long : plan .k ≤ length chosen
-    pub spelt : Spelt (plan .p) (plan .k - left) (take (plan .k - left) chosen)
+    pub spelt : Spelt (plan .shape .p) (plan .k - left) (take (plan .k - left) chosen)
 
 pub record Room (plan : Plan) (count : ℕ) (list : List (List ℕ)) (messages : List ℕ) : Type 0 where
   pub enough : (count + length list) * plan .k ≤ length messages
@@ -125,16 +122,16 @@ pub record Leaves (plan : Plan) (left count : ℕ) (list : List (List ℕ)) (cur
   pub wrote : Wrote plan count list messages messages′ r
 
 abbrev pub planOf : ℕ → ℕ → ℕ → ℕ → ℕ → ℕ → Plan
-planOf p n k m l t = record { p = p; k = k; l = l; t = t; width = width n k m l }
+planOf p n k m l t = record { shape = shape p n k m l; k = k; t = t }
 
 abbrev pub foundOn : Plan → List ℕ → List ℕ → List ℕ → List (List ℕ)
-foundOn plan points word curve = found (taskFor plan points word) (suc (plan .l)) (suc (plan .width)) (curveOf plan curve)
+foundOn plan points word curve = found (taskFor plan points word) (suc (plan .shape .l)) (suc (plan .shape .width)) (curveOf (plan .shape) curve)
 
 pub record Runs (plan : Plan) (points word curve messages : List ℕ) : Type 0 where
   pub received : Received plan points word
-  pub laid : Laid plan curve
-  pub few : length (foundOn plan points word curve) ≤ plan .l
-  pub room : plan .l * plan .k ≤ length messages
+  pub laid : Laid (plan .shape) curve
+  pub few : length (foundOn plan points word curve) ≤ plan .shape .l
+  pub room : plan .shape .l * plan .k ≤ length messages
 
 pub record Ran (k : ℕ) (list : List (List ℕ)) (before after : List ℕ) (r : ℕ) : Type 0 where
   pub count : r ≡ length list

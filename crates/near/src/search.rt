@@ -5,51 +5,49 @@ ghost use Prim.Native.Nat.{suc, _+_, _-_, _*_, _<_, _≤_};
 ghost use lib.ListN.{length, take};
 ghost use lib.Seq.{sets};
 ghost use Rattle.field.specs.Symbols.{symbols};
-ghost use Rattle.poly.specs.Limits.{widthMost};
 ghost use Rattle.poly.specs.Buffers.{Decided};
-ghost use Rattle.rows.specs.Bytes.{width};
 ghost use Rattle.near.specs.Lists.{Spelt, agreements as agreementsOf, polynomial};
 ghost use Rattle.near.specs.Search.{some?, lowest as lowestOf};
 ghost use Rattle.near.specs.Work.{curveOf, sliceOf, RootAt, Laid, Tries, Lifted, Shifted, Received, taskFor, after, with, kept, Room, Wrote};
 ghost use Rattle.near.specs.Work.{Searches, Leaves, planOf, foundOn, Runs, Ran};
 use field::Symbol;
+use rows::Shape;
 
+// What a search goes by: the shape of its curve, the symbols of a message and the agreements wanted.
 pub struct Plan {
-    pub p: u8,
+    pub shape: Shape,
     pub k: usize,
-    pub l: usize,
     pub t: usize,
-    pub width: usize,
 }
 
 // The coefficient of x^v in what slot j becomes at x^i y for y.
-fn symbol_at(curve: &[u8], plan: Plan, i: usize, v: usize, j: usize) -> u8
-    requires { ⌜ Laid plan (now curve) ⌝ }
-    requires { ⌜ i < plan .k ⌝ }
-    requires { ⌜ j ≤ plan .l ⌝ }
-    ensures { λ r. ⌜ r ≡ sliceOf plan (now (curve .entry)) i v j .byte ⌝ }
+fn symbol_at(curve: &[u8], shape: Shape, i: usize, v: usize, j: usize) -> u8
+    requires { ⌜ Laid shape (now curve) ⌝ }
+    requires { ⌜ i ≤ shape .u ⌝ }
+    requires { ⌜ j ≤ shape .l ⌝ }
+    ensures { λ r. ⌜ r ≡ sliceOf shape (now (curve .entry)) i v j .byte ⌝ }
 {
     let lift = i * j;
     if v < lift {
         return 0;
     }
     let e = v - lift;
-    if plan.width < e {
+    if shape.width < e {
         return 0;
     }
-    let at = j * (plan.width + 1) + e;
+    let at = rows::layout::place(shape, 0, j, e);
     curve[at]
 }
 
 // Whether x^v stands anywhere in the curve at x^i y for y.
-fn stands(curve: &[u8], plan: Plan, i: usize, v: usize) -> bool
-    requires { ⌜ Laid plan (now curve) ⌝ }
-    requires { ⌜ i < plan .k ⌝ }
-    ensures { λ r. ⌜ r ≡ some? (symbols (plan .p)) (suc (plan .l)) (sliceOf plan (now (curve .entry)) i v) ⌝ }
+fn stands(curve: &[u8], shape: Shape, i: usize, v: usize) -> bool
+    requires { ⌜ Laid shape (now curve) ⌝ }
+    requires { ⌜ i ≤ shape .u ⌝ }
+    ensures { λ r. ⌜ r ≡ some? (symbols (shape .p)) (suc (shape .l)) (sliceOf shape (now (curve .entry)) i v) ⌝ }
 {
     let mut j = 0;
-    while j <= plan.l {
-        if symbol_at(curve, plan, i, v, j) != 0 {
+    while j <= shape.l {
+        if symbol_at(curve, shape, i, v, j) != 0 {
             return true;
         }
         j += 1;
@@ -58,14 +56,14 @@ fn stands(curve: &[u8], plan: Plan, i: usize, v: usize) -> bool
 }
 
 // The highest power of x that divides it.
-fn lowest(curve: &[u8], plan: Plan, i: usize) -> usize
-    requires { ⌜ Laid plan (now curve) ⌝ }
-    requires { ⌜ i < plan .k ⌝ }
-    ensures { λ r. ⌜ r ≡ lowestOf (symbols (plan .p)) (suc (plan .l)) (suc (plan .width)) i (curveOf plan (now (curve .entry))) ⌝ }
+fn lowest(curve: &[u8], shape: Shape, i: usize) -> usize
+    requires { ⌜ Laid shape (now curve) ⌝ }
+    requires { ⌜ i ≤ shape .u ⌝ }
+    ensures { λ r. ⌜ r ≡ lowestOf (symbols (shape .p)) (suc (shape .l)) (suc (shape .width)) i (curveOf shape (now (curve .entry))) ⌝ }
 {
     let mut v = 0;
-    while v <= plan.width {
-        if stands(curve, plan, i, v) {
+    while v <= shape.width {
+        if stands(curve, shape, i, v) {
             return v;
         }
         v += 1;
@@ -74,18 +72,18 @@ fn lowest(curve: &[u8], plan: Plan, i: usize) -> usize
 }
 
 // Whether c is a root of what is left at x = 0.
-fn fits(curve: &[u8], plan: Plan, i: usize, low: usize, c: u8) -> bool
-    requires { ⌜ Tries plan i c (now curve) ⌝ }
-    ensures { λ r. ⌜ Decided r (RootAt plan (now (curve .entry)) i low c) ⌝ }
+fn fits(curve: &[u8], shape: Shape, i: usize, low: usize, c: u8) -> bool
+    requires { ⌜ Tries shape i c (now curve) ⌝ }
+    ensures { λ r. ⌜ Decided r (RootAt shape (now (curve .entry)) i low c) ⌝ }
 {
-    let p = plan.p;
+    let p = shape.p;
     let x = Symbol { value: c };
     let mut sum = Symbol::ZERO;
-    let mut j = plan.l + 1;
+    let mut j = shape.l + 1;
     while 0 < j {
         j -= 1;
         let a = Symbol {
-            value: symbol_at(curve, plan, i, low, j),
+            value: symbol_at(curve, shape, i, low, j),
         };
         sum = a.sum(x.product(sum, p), p);
     }
@@ -93,52 +91,53 @@ fn fits(curve: &[u8], plan: Plan, i: usize, low: usize, c: u8) -> bool
 }
 
 // Slot q takes c x^i times the slot above.
-fn take_above(curve: &mut [u8], plan: Plan, i: usize, c: Symbol, q: usize)
-    requires { ⌜ Tries plan i (c .value) (now curve) ⌝ }
-    requires { ⌜ q < plan .l ⌝ }
-    ensures { λ _. ⌜ Lifted plan i (c .value) q (suc q) (now (curve .entry)) (now (curve .exit)) ⌝ }
+fn take_above(curve: &mut [u8], shape: Shape, i: usize, c: Symbol, q: usize)
+    requires { ⌜ Tries shape i (c .value) (now curve) ⌝ }
+    requires { ⌜ q < shape .l ⌝ }
+    ensures { λ _. ⌜ Lifted shape i (c .value) q (suc q) (now (curve .entry)) (now (curve .exit)) ⌝ }
 {
-    let slot = plan.width + 1;
-    let less = c.negative(plan.p);
-    field::subtract(curve, q * slot + i, (q + 1) * slot, slot - i, less, plan.p);
+    let target = rows::layout::place(shape, 0, q, i);
+    let source = rows::layout::place(shape, 0, q + 1, 0);
+    let len = rows::layout::slot(shape) - i;
+    field::subtract(curve, target, source, len, c.negative(shape.p), shape.p);
 }
 
 // Slots j to l - 1 each take c x^i times the slot above, from the lowest up.
-fn raise(curve: &mut [u8], plan: Plan, i: usize, c: Symbol, j: usize)
-    requires { ⌜ Tries plan i (c .value) (now curve) ⌝ }
-    requires { ⌜ j < plan .l ⌝ }
-    ensures { λ _. ⌜ Lifted plan i (c .value) j (plan .l) (now (curve .entry)) (now (curve .exit)) ⌝ }
+fn raise(curve: &mut [u8], shape: Shape, i: usize, c: Symbol, j: usize)
+    requires { ⌜ Tries shape i (c .value) (now curve) ⌝ }
+    requires { ⌜ j < shape .l ⌝ }
+    ensures { λ _. ⌜ Lifted shape i (c .value) j (shape .l) (now (curve .entry)) (now (curve .exit)) ⌝ }
 {
     let mut q = j;
-    while q < plan.l {
-        take_above(curve, plan, i, c, q);
+    while q < shape.l {
+        take_above(curve, shape, i, c, q);
         q += 1;
     }
 }
 
 // y becomes y + c x^i, by Horner's rule from the highest power of y down.
-fn shift(curve: &mut [u8], plan: Plan, i: usize, c: Symbol)
-    requires { ⌜ Tries plan i (c .value) (now curve) ⌝ }
-    ensures { λ _. ⌜ Shifted plan i (c .value) (now (curve .entry)) (now (curve .exit)) ⌝ }
+fn shift(curve: &mut [u8], shape: Shape, i: usize, c: Symbol)
+    requires { ⌜ Tries shape i (c .value) (now curve) ⌝ }
+    ensures { λ _. ⌜ Shifted shape i (c .value) (now (curve .entry)) (now (curve .exit)) ⌝ }
 {
-    let mut j = plan.l;
+    let mut j = shape.l;
     while 0 < j {
         j -= 1;
-        raise(curve, plan, i, c, j);
+        raise(curve, shape, i, c, j);
     }
 }
 
 // At how many places the message agrees.
 fn agreements(message: &[u8], points: &[u8], word: &[u8], plan: Plan) -> usize
     requires { ⌜ Received plan (now points) (now word) ⌝ }
-    requires { ⌜ Spelt (plan .p) (plan .k) (now message) ⌝ }
+    requires { ⌜ Spelt (plan .shape .p) (plan .k) (now message) ⌝ }
     ensures { λ r. ⌜ r ≡ agreementsOf (taskFor plan (now (points .entry)) (now (word .entry))) (length (now (points .entry)))
         (polynomial (taskFor plan (now (points .entry)) (now (word .entry))) (now (message .entry))) ⌝ }
 {
     let mut count = 0;
     let mut s = 0;
     while s < points.len() {
-        if poly::value_at(message, points[s], plan.p) == word[s] {
+        if poly::value_at(message, points[s], plan.shape.p) == word[s] {
             count += 1;
         }
         s += 1;
@@ -168,7 +167,7 @@ fn keep(
     count: usize,
 ) -> usize
     requires { ⌜ Received plan (now points) (now word) ⌝ }
-    requires { ⌜ Spelt (plan .p) (plan .k) (take (plan .k) (now chosen)) ⌝ }
+    requires { ⌜ Spelt (plan .shape .p) (plan .k) (take (plan .k) (now chosen)) ⌝ }
     requires { ⌜ Room plan count (kept plan (now points) (now word) (now chosen)) (now messages) ⌝ }
     ensures { λ r. ⌜ Wrote plan count (kept plan (now (points .entry)) (now (word .entry)) (now (chosen .entry))) (now (messages .entry))
         (now (messages .exit)) r ⌝ }
@@ -198,12 +197,13 @@ fn level(
     ensures { λ r. ⌜ Leaves plan left count (after plan (now (points .entry)) (now (word .entry)) (now (curve .entry)) (now (chosen .entry)) left)
         (now (curve .entry)) (now (curve .exit)) (now (chosen .entry)) (now (chosen .exit)) (now (messages .entry)) (now (messages .exit)) r ⌝ }
 {
+    let shape = plan.shape;
     let i = plan.k - left;
-    let low = lowest(curve, plan, i);
+    let low = lowest(curve, shape, i);
     let mut found = count;
     let mut c = 0;
-    while c < plan.p {
-        if fits(curve, plan, i, low, c) {
+    while c < shape.p {
+        if fits(curve, shape, i, low, c) {
             found = open(curve, chosen, points, word, messages, plan, left, c, found);
         }
         c += 1;
@@ -224,36 +224,34 @@ fn open(
     count: usize,
 ) -> usize
     requires { ⌜ Searches plan (now points) (now word) (now curve) (now chosen) left ⌝ }
-    requires { ⌜ c < plan .p ⌝ }
+    requires { ⌜ c < plan .shape .p ⌝ }
     requires { ⌜ Room plan count (with plan (now points) (now word) (now curve) (now chosen) left c) (now messages) ⌝ }
     ensures { λ r. ⌜ Leaves plan left count (with plan (now (points .entry)) (now (word .entry)) (now (curve .entry)) (now (chosen .entry)) left c)
         (now (curve .entry)) (now (curve .exit)) (now (chosen .entry)) (now (chosen .exit)) (now (messages .entry)) (now (messages .exit)) r ⌝ }
 {
+    let shape = plan.shape;
     let i = plan.k - left;
     let symbol = Symbol { value: c };
     chosen[i] = c;
     if left == 1 {
         return keep(chosen, points, word, messages, plan, count);
     }
-    shift(curve, plan, i, symbol);
+    shift(curve, shape, i, symbol);
     let found = level(curve, chosen, points, word, messages, plan, left - 1, count);
-    shift(curve, plan, i, symbol.negative(plan.p));
+    shift(curve, shape, i, symbol.negative(shape.p));
     found
 }
 
-// The numbers of a request; n is the count of points.
-fn plan_of(p: u8, n: usize, k: u8, m: u8, l: u8, t: u8) -> Plan
-    requires { ⌜ (0 < k) × (m ≤ l) × (width n k m l ≤ widthMost) ⌝ }
+// The plan of a request; n is the count of points.
+fn plan_of(p: u8, n: u8, k: u8, m: u8, l: u8, t: u8) -> Plan
+    requires { ⌜ (1 ≤ k) × (m ≤ l) ⌝ }
     ensures { λ r. ⌜ r ≡ planOf p n k m l t ⌝ }
 {
-    let u = k as usize - 1;
-    let width = m as usize * n + (l as usize - m as usize) * u;
+    let shape = rows::layout::of(p, n, k, m, l);
     Plan {
-        p,
+        shape,
         k: k as usize,
-        l: l as usize,
         t: t as usize,
-        width,
     }
 }
 
@@ -268,12 +266,12 @@ pub fn run(
     t: u8,
     messages: &mut [u8],
 ) -> u8
-    requires { ⌜ m ≤ l ⌝ }
+    requires { ⌜ (m ≤ l) × (length (now points) ≤ p) ⌝ }
     requires { ⌜ Runs (planOf p (length (now points)) k m l t) (now points) (now word) (now curve) (now messages) ⌝ }
     ensures { λ r. ⌜ Ran k (foundOn (planOf p (length (now (points .entry))) k m l t) (now (points .entry)) (now (word .entry))
         (now (curve .entry))) (now (messages .entry)) (now (messages .exit)) r ⌝ }
 {
     let mut chosen = [0u8; 32];
-    let plan = plan_of(p, points.len(), k, m, l, t);
+    let plan = plan_of(p, points.len() as u8, k, m, l, t);
     level(curve, &mut chosen, points, word, messages, plan, plan.k, 0) as u8
 }

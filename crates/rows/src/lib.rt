@@ -4,7 +4,7 @@ ghost use Prim.Native.Nat.{_+_, _-_, _*_, _<_};
 ghost use Rattle.rows.specs.Jobs.{HasStarted, HasTurned, HasFinished, atRow, withNote};
 ghost use Rattle.rows.specs.Work.{Ready, Went};
 
-mod layout; // layout.rt: how curves and rows lie in bytes
+pub mod layout; // layout.rt: how curves and rows lie in bytes
 mod refusals; // refusals.rt: the refusals of each job
 mod fill; // fill.rt: the rows that a start fills
 mod leading; // leading.rt: leading terms

@@ -84,7 +84,7 @@ run-requires c κs =
     let e = c .before .before in
     let i = e .before .before .before .before .before .before .before .before .before in
     let b = i .before .before .before in
-    (taken b .accepted .heights .order, search-runs (taken b) (i .interpolate .ensures) (fits b) (e .if2 .left))
+    ((taken b .accepted .heights .order, taken b .accepted .places .count), search-runs (taken b) (i .interpolate .ensures) (fits b) (e .if2 .left))
 
 same-length-5 : tie.Need-same-length-5
 same-length-5 c = search needs

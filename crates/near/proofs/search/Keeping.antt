@@ -26,37 +26,39 @@ one-no : {A : Type 0} (d : Dec A) → (A → ⊥) → one d ≡ 0
 one-no (yes h) a = absurd (a h)
 one-no (no h) a = refl
 
-module _ {plan : Plan} {points word message : List ℕ} (received : Received plan points word) (spelt : Spelt (plan .p) (plan .k) message) {s : ℕ}
-    (inside : s < length points) where
-  abbrev task : Task (symbols (plan .p))
+module _ {plan : Plan} {points word message : List ℕ} (received : Received plan points word) (spelt : Spelt (plan .shape .p) (plan .k) message)
+    {s : ℕ} (inside : s < length points) where
+  abbrev task : Task (symbols (plan .shape .p))
   task = taskFor plan points word
 
-  pub place-asks : Coefficients (plan .p) (getD points s 0) message
+  pub place-asks : Coefficients (plan .shape .p) (getD points s 0) message
   place-asks =
       let l = spelt .long in
       record { size = received .size; point = received .points-below s inside; below = λ i h. spelt .small i (omega arith) }
 
   -- the message's value at the point, and the symbol received there, by their bytes
-  value-is : valueAt (plan .p) message (getD points s 0) ≡ value (symbols (plan .p) .ring) (task .point s) (plan .k) (polynomial task message)
-  value-is = ap (λ (n : ℕ). value (symbols (plan .p) .ring) (symbol (plan .p) (getD points s 0)) n (polynomial task message)) (spelt .long)
+  value-is : valueAt (plan .shape .p) message (getD points s 0)
+      ≡ value (symbols (plan .shape .p) .ring) (task .point s) (plan .k) (polynomial task message)
+  value-is =
+      ap (λ (n : ℕ). value (symbols (plan .shape .p) .ring) (symbol (plan .shape .p) (getD points s 0)) n (polynomial task message)) (spelt .long)
 
   received-is : task .received s .byte ≡ getD word s 0
-  received-is = let l = received .same in symbol-own (plan .p) (received .word-below s (omega arith))
+  received-is = let l = received .same in symbol-own (plan .shape .p) (received .word-below s (omega arith))
 
   abbrev count : ℕ → ℕ
   count n = agreements task n (polynomial task message)
 
-  pub agrees : {v : ℕ} → v ≡ valueAt (plan .p) message (getD points s 0) .byte → v ≡ getD word s 0 → count (suc s) ≡ count s + 1
+  pub agrees : {v : ℕ} → v ≡ valueAt (plan .shape .p) message (getD points s 0) .byte → v ≡ getD word s 0 → count (suc s) ≡ count s + 1
   agrees {v} e d =
       agreements-suc task (polynomial task message) s
       ∙ ap (λ (n : ℕ). count s + n)
-      (one-yes (agrees? task (polynomial task message) s) (sym value-is ∙ same-byte (plan .p) (sym e ∙ d ∙ sym received-is)))
+      (one-yes (agrees? task (polynomial task message) s) (sym value-is ∙ same-byte (plan .shape .p) (sym e ∙ d ∙ sym received-is)))
 
-  pub differs : {v : ℕ} → v ≡ valueAt (plan .p) message (getD points s 0) .byte → (v ≡ getD word s 0 → ⊥) → count (suc s) ≡ count s
+  pub differs : {v : ℕ} → v ≡ valueAt (plan .shape .p) message (getD points s 0) .byte → (v ≡ getD word s 0 → ⊥) → count (suc s) ≡ count s
   differs {v} e d =
       agreements-suc task (polynomial task message) s
       ∙ ap (λ (n : ℕ). count s + n)
-      (one-no (agrees? task (polynomial task message) s) (λ h. d (e ∙ ap (λ (x : Element (plan .p)). x .byte) (value-is ∙ h) ∙ received-is)))
+      (one-no (agrees? task (polynomial task message) s) (λ h. d (e ∙ ap (λ (x : Element (plan .shape .p)). x .byte) (value-is ∙ h) ∙ received-is)))
       ∙ add-zero (count s)
 
 -- what is kept of the message

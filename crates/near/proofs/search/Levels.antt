@@ -105,15 +105,22 @@ spelt-snoc {p} {i} {c} {x} s h =
     go j k (yes e) = let z : j ≡ length x = e ∙ sym (s .long) in rw (z, getD-append-seam x c [] 0) h
     go j k (no e) = let l = s .long in rw (List·getD-append x (c ∷ []) 0 j (omega arith)) (s .small j (omega arith))
 
+-- the powers of y and the weights that the curve can have
+abbrev tall : Plan → ℕ
+tall plan = suc (plan .shape .l)
+
+abbrev wide : Plan → ℕ
+wide plan = suc (plan .shape .width)
+
 -- what comes of trying c as the next of the symbols left
 abbrev pub tried : (plan : Plan) (points word curve chosen : List ℕ) (left : ℕ) → ℕ → List (List ℕ)
 tried plan points word curve chosen left =
-    branch (taskFor plan points word) (suc (plan .l)) (suc (plan .width)) (left - 1) (take (plan .k - left) chosen) (curveOf plan curve)
+    branch (taskFor plan points word) (tall plan) (wide plan) (left - 1) (take (plan .k - left) chosen) (curveOf (plan .shape) curve)
 
 -- how a level's loop stands: the symbols below c are done
 pub record Going (plan : Plan) (points word curve₀ chosen₀ messages₀ : List ℕ) (left count : ℕ) (curve chosen messages : List ℕ)
     (found c : ℕ) : Type 0 where
-  pub upto : c ≤ plan .p
+  pub upto : c ≤ plan .shape .p
   pub long : length chosen ≡ length chosen₀
   pub leaves : Leaves plan left count (each c (tried plan points word curve₀ chosen₀ left)) curve₀ curve chosen₀ chosen messages₀ messages found
 
@@ -121,8 +128,8 @@ module _ {plan : Plan} {points word curve₀ chosen₀ : List ℕ} {left : ℕ} 
   abbrev i : ℕ
   i = plan .k - left
 
-  pub next-below : i < plan .k
-  next-below = let n = s .some in let m = s .most in omega arith
+  pub next-below : i ≤ plan .shape .u
+  next-below = let n = s .some in let m = s .most in let d = s .received .degree in omega arith
 
   next-up : plan .k - (left - 1) ≡ suc i
   next-up = let n = s .some in let m = s .most in omega arith
@@ -130,12 +137,12 @@ module _ {plan : Plan} {points word curve₀ chosen₀ : List ℕ} {left : ℕ} 
   abbrev try : ℕ → List (List ℕ)
   try = tried plan points word curve₀ chosen₀ left
 
-  after-each : after plan points word curve₀ chosen₀ left ≡ each (plan .p) try
+  after-each : after plan points word curve₀ chosen₀ left ≡ each (plan .shape .p) try
   after-each =
       let n = s .some in
       let e : left ≡ suc (left - 1) = omega arith in
-      ap (λ (q : ℕ). level (taskFor plan points word) (suc (plan .l)) (suc (plan .width)) q (take i chosen₀) (curveOf plan curve₀)) e
-      ∙ level-suc (taskFor plan points word) (suc (plan .l)) (suc (plan .width)) (left - 1) (take i chosen₀) (curveOf plan curve₀)
+      ap (λ (q : ℕ). level (taskFor plan points word) (tall plan) (wide plan) q (take i chosen₀) (curveOf (plan .shape) curve₀)) e
+      ∙ level-suc (taskFor plan points word) (tall plan) (wide plan) (left - 1) (take i chosen₀) (curveOf (plan .shape) curve₀)
 
   try-blocks : (c : ℕ) → Blocks (plan .k) (try c)
   try-blocks c =
@@ -143,21 +150,22 @@ module _ {plan : Plan} {points word curve₀ chosen₀ : List ℕ} {left : ℕ} 
       let m = s .most in
       let l = s .spelt .long in
       let e : length (take i chosen₀ ++ (c ∷ [])) + (left - 1) ≡ plan .k = rw (length-append (take i chosen₀) (c ∷ [])) (omega arith) in
-      blocks-choose (fits? (symbols (plan .p)) (suc (plan .l)) (suc (plan .width)) (length (take i chosen₀)) (curveOf plan curve₀)
-      (symbol (plan .p) c))
-      (rw e at (level-blocks (taskFor plan points word) (suc (plan .l)) (suc (plan .width)) (left - 1) (take i chosen₀ ++ (c ∷ []))
-      (choice (symbols (plan .p) .ring) (suc (plan .l)) (length (take i chosen₀)) (symbol (plan .p) c) (curveOf plan curve₀))))
+      blocks-choose (fits? (symbols (plan .shape .p)) (tall plan) (wide plan) (length (take i chosen₀)) (curveOf (plan .shape) curve₀)
+      (symbol (plan .shape .p) c))
+      (rw e at (level-blocks (taskFor plan points word) (tall plan) (wide plan) (left - 1) (take i chosen₀ ++ (c ∷ []))
+      (choice (symbols (plan .shape .p) .ring) (tall plan) (length (take i chosen₀)) (symbol (plan .shape .p) c) (curveOf (plan .shape) curve₀))))
 
   -- whether c fits, at the power of x that the code found
-  module _ {low : ℕ} (least : low ≡ lowest (symbols (plan .p)) (suc (plan .l)) (suc (plan .width)) i (curveOf plan curve₀)) (c : ℕ) where
-    abbrev fits : Dec (RootAt plan curve₀ (length (take i chosen₀))
-        (lowest (symbols (plan .p)) (suc (plan .l)) (suc (plan .width)) (length (take i chosen₀)) (curveOf plan curve₀)) c)
-    fits = fits? (symbols (plan .p)) (suc (plan .l)) (suc (plan .width)) (length (take i chosen₀)) (curveOf plan curve₀) (symbol (plan .p) c)
+  module _ {low : ℕ} (least : low ≡ lowest (symbols (plan .shape .p)) (tall plan) (wide plan) i (curveOf (plan .shape) curve₀)) (c : ℕ) where
+    abbrev fits : Dec (RootAt (plan .shape) curve₀ (length (take i chosen₀))
+        (lowest (symbols (plan .shape .p)) (tall plan) (wide plan) (length (take i chosen₀)) (curveOf (plan .shape) curve₀)) c)
+    fits =
+        fits? (symbols (plan .shape .p)) (tall plan) (wide plan) (length (take i chosen₀)) (curveOf (plan .shape) curve₀) (symbol (plan .shape .p) c)
 
-    try-fits : RootAt plan curve₀ i low c → try c ≡ with plan points word curve₀ chosen₀ left c
+    try-fits : RootAt (plan .shape) curve₀ i low c → try c ≡ with plan points word curve₀ chosen₀ left c
     try-fits h = choose-yes fits (with plan points word curve₀ chosen₀ left c) [] (rw (s .spelt .long) (rw least at h))
 
-    try-fails : (RootAt plan curve₀ i low c → ⊥) → try c ≡ []
+    try-fails : (RootAt (plan .shape) curve₀ i low c → ⊥) → try c ≡ []
     try-fails h = choose-no fits (with plan points word curve₀ chosen₀ left c) [] (λ d. h (rw least (rw (s .spelt .long) at d)))
 
   pub going-none : {messages₀ : List ℕ} {count : ℕ} → Going plan points word curve₀ chosen₀ messages₀ left count curve₀ chosen₀ messages₀ count 0
@@ -183,15 +191,15 @@ module _ {plan : Plan} {points word curve₀ chosen₀ : List ℕ} {left : ℕ} 
     going-messages = ap length (g .leaves .wrote .written) ∙ length-sets messages₀ (count * plan .k) (flat (each c try))
 
     -- the test that the code made, on the curve as it is now
-    module _ {low : ℕ} (least : low ≡ lowest (symbols (plan .p)) (suc (plan .l)) (suc (plan .width)) i (curveOf plan curve₀)) {r : Bool}
-        (test : Decided r (RootAt plan curve i low c)) where
+    module _ {low : ℕ} (least : low ≡ lowest (symbols (plan .shape .p)) (tall plan) (wide plan) i (curveOf (plan .shape) curve₀)) {r : Bool}
+        (test : Decided r (RootAt (plan .shape) curve i low c)) where
       pub fitting : r ≡ true → try c ≡ with plan points word curve₀ chosen₀ left c
       fitting e = try-fits least c (rw (g .leaves .same) at (test .holds e))
 
       pub failing : r ≡ false → try c ≡ []
       failing e = try-fails least c (λ d. test .fails e (rw (g .leaves .same) d))
 
-    module _ (h : c < plan .p) where
+    module _ (h : c < plan .shape .p) where
       pub opens : try c ≡ with plan points word curve₀ chosen₀ left c → Room plan count (after plan points word curve₀ chosen₀ left) messages₀
           → Room plan found (with plan points word curve chosen left c) messages
       opens e room =
@@ -199,9 +207,9 @@ module _ {plan : Plan} {points word curve₀ chosen₀ : List ℕ} {left : ℕ} 
           let m = going-messages in
           let l : length (each (c + 1) try) ≡ length (each c try) + length (with plan points word curve₀ chosen₀ left c) =
           rw (each-suc try c, length-append (each c try) (try c), e) in
-          let a = each-mono try (c + 1) (plan .p) (omega arith) in
-          let r : (count + length (each (plan .p) try)) * plan .k ≤ length messages₀ = rw after-each at (room .enough) in
-          let b : (found + length (with plan points word curve₀ chosen₀ left c)) * plan .k ≤ (count + length (each (plan .p) try)) * plan .k =
+          let a = each-mono try (c + 1) (plan .shape .p) (omega arith) in
+          let r : (count + length (each (plan .shape .p) try)) * plan .k ≤ length messages₀ = rw after-each at (room .enough) in
+          let b : (found + length (with plan points word curve₀ chosen₀ left c)) * plan .k ≤ (count + length (each (plan .shape .p) try)) * plan .k =
           mul-le-mul-right (plan .k) (omega arith) in
           record { enough = rw with-now (omega arith) }
 
@@ -223,19 +231,19 @@ module _ {plan : Plan} {points word curve₀ chosen₀ : List ℕ} {left : ℕ} 
       pub passed : try c ≡ [] → Going plan points word curve₀ chosen₀ messages₀ left count curve chosen messages found (c + 1)
       passed e = record { upto = omega arith; long = g .long; leaves = rw (each-suc try c, e, append-nil) (g .leaves) }
 
-    pub going-all : c ≡ plan .p
+    pub going-all : c ≡ plan .shape .p
         → Leaves plan left count (after plan points word curve₀ chosen₀ left) curve₀ curve chosen₀ chosen messages₀ messages found
     going-all e = rw after-each (rw e at (g .leaves))
 
   -- what opens with c
-  module _ {c : ℕ} (h : c < plan .p) where
+  module _ {c : ℕ} (h : c < plan .shape .p) where
     abbrev chosen₁ : List ℕ
     chosen₁ = set chosen₀ i c
 
     front-one : take (suc i) chosen₁ ≡ take i chosen₀ ++ (c ∷ [])
-    front-one = let n = next-below in let l = s .long in take-suc-set chosen₀ i c (omega arith)
+    front-one = let n = s .some in let m = s .most in let l = s .long in take-suc-set chosen₀ i c (omega arith)
 
-    spelt-one : Spelt (plan .p) (suc i) (take (suc i) chosen₁)
+    spelt-one : Spelt (plan .shape .p) (suc i) (take (suc i) chosen₁)
     spelt-one = rw front-one (spelt-snoc (s .spelt) h)
 
     pub front-kept : take i chosen₁ ≡ take i chosen₀
@@ -245,19 +253,19 @@ module _ {plan : Plan} {points word curve₀ chosen₀ : List ℕ} {left : ℕ} 
     last : left ≡ 1 → suc i ≡ plan .k
     last e = let m = s .most in omega arith
 
-    pub spelt-last : left ≡ 1 → Spelt (plan .p) (plan .k) (take (plan .k) chosen₁)
-    spelt-last e = subst (λ (n : ℕ). Spelt (plan .p) n (take n chosen₁)) (last e) spelt-one
+    pub spelt-last : left ≡ 1 → Spelt (plan .shape .p) (plan .k) (take (plan .k) chosen₁)
+    spelt-last e = subst (λ (n : ℕ). Spelt (plan .shape .p) n (take n chosen₁)) (last e) spelt-one
 
     pub with-last : left ≡ 1 → kept plan points word chosen₁ ≡ with plan points word curve₀ chosen₀ left c
     with-last e =
         let y : take (plan .k) chosen₁ ≡ take i chosen₀ ++ (c ∷ []) = ap (λ (n : ℕ). take n chosen₁) (sym (last e)) ∙ front-one in
         let z : left - 1 ≡ 0 = omega arith in
         rw (y, z)
-        (sym (level-zero (taskFor plan points word) (suc (plan .l)) (suc (plan .width)) (take i chosen₀ ++ (c ∷ []))
-        (choice (symbols (plan .p) .ring) (suc (plan .l)) (length (take i chosen₀)) (symbol (plan .p) c) (curveOf plan curve₀))))
+        (sym (level-zero (taskFor plan points word) (tall plan) (wide plan) (take i chosen₀ ++ (c ∷ []))
+        (choice (symbols (plan .shape .p) .ring) (tall plan) (length (take i chosen₀)) (symbol (plan .shape .p) c) (curveOf (plan .shape) curve₀))))
 
     -- any other
-    module _ {curve₁ : List ℕ} (shift : Shifted plan i c curve₀ curve₁) where
+    module _ {curve₁ : List ℕ} (shift : Shifted (plan .shape) i c curve₀ curve₁) where
       pub with-next : after plan points word curve₁ chosen₁ (left - 1) ≡ with plan points word curve₀ chosen₀ left c
       with-next = rw (next-up, front-one, shift .curve, s .spelt .long)
 
@@ -274,12 +282,12 @@ module _ {plan : Plan} {points word curve₀ chosen₀ : List ℕ} {left : ℕ} 
 
       module _ {curve₂ chosen₂ messages messages₂ : List ℕ} {count r : ℕ}
           (rest : Leaves plan (left - 1) count (after plan points word curve₁ chosen₁ (left - 1)) curve₁ curve₂ chosen₁ chosen₂ messages messages₂ r)
-          {n : ℕ} (less : n ≡ negByte (plan .p) c) where
-        pub back-tries : Tries plan i n curve₂
+          {n : ℕ} (less : n ≡ negByte (plan .shape .p) c) where
+        pub back-tries : Tries (plan .shape) i n curve₂
         back-tries =
             record { laid = rw (rest .same) (shift .laid); next = next-below; small = rw less (negByte-below (s .received .size) c) }
 
-        pub back-leaves : {curve₃ : List ℕ} → Shifted plan i n curve₂ curve₃
+        pub back-leaves : {curve₃ : List ℕ} → Shifted (plan .shape) i n curve₂ curve₃
             → Leaves plan left count (with plan points word curve₀ chosen₀ left c) curve₀ curve₃ chosen₀ chosen₂ messages messages₂ r
         back-leaves back =
             record {
@@ -302,7 +310,7 @@ module _ {plan request : Plan} (is : plan ≡ request) {points word curve messag
       record {
         received = runs .received;
         laid = runs .laid;
-        some = runs .received .some;
+        some = let d = runs .received .degree in omega arith;
         most = omega arith;
         long = l;
         spelt = rw first spelt-nil;
@@ -315,7 +323,7 @@ module _ {plan request : Plan} (is : plan ≡ request) {points word curve messag
   pub first-room : (chosen : List ℕ) → Room plan 0 (after plan points word curve chosen (plan .k)) messages
   first-room chosen =
       let r = runs .room in
-      let a : length (foundOn plan points word curve) * plan .k ≤ plan .l * plan .k = mul-le-mul-right (plan .k) (runs .few) in
+      let a : length (foundOn plan points word curve) * plan .k ≤ plan .shape .l * plan .k = mul-le-mul-right (plan .k) (runs .few) in
       record { enough = rw (first-after chosen, zero-add (length (foundOn plan points word curve))) (omega arith) }
 
   module _ {curve′ chosen chosen′ messages′ : List ℕ} {r : ℕ}
@@ -329,14 +337,14 @@ module _ {plan request : Plan} (is : plan ≡ request) {points word curve messag
     written : messages′ ≡ sets messages 0 (flat list)
     written = leaves .wrote .written ∙ rw (first-after chosen, zero-mul (plan .k))
 
-    pub few : r ≤ request .l
+    pub few : r ≤ request .shape .l
     few = let t = total in let f = runs .few in rw (← is) (omega arith)
 
     made : Ran (plan .k) list messages messages′ r
     made =
         let e : length (flat list) ≡ length list * plan .k =
-        rw zero-add at (level-blocks (taskFor plan points word) (suc (plan .l)) (suc (plan .width)) (plan .k) [] (curveOf plan curve) .long) in
-        let a : length list * plan .k ≤ plan .l * plan .k = mul-le-mul-right (plan .k) (runs .few) in
+        rw zero-add at (level-blocks (taskFor plan points word) (tall plan) (wide plan) (plan .k) [] (curveOf (plan .shape) curve) .long) in
+        let a : length list * plan .k ≤ plan .shape .l * plan .k = mul-le-mul-right (plan .k) (runs .few) in
         let h : 0 + length (flat list) ≤ length messages = let m = runs .room in omega arith in
         record {
           count = total;

@@ -62,13 +62,13 @@ open-calls t = (
 )
 
 abbrev level-Inv-loop : level-lts.InvT-loop
-level-Inv-loop curve₀ chosen₀ points word messages₀ plan left count i low found₀ c₀ curve chosen messages found c =
+level-Inv-loop curve₀ chosen₀ points word messages₀ plan left count shape i low found₀ c₀ curve chosen messages found c =
     Going plan points word curve₀ chosen₀ messages₀ left count curve chosen messages found c
-    × (low ≡ lowest (symbols (plan .p)) (suc (plan .l)) (suc (plan .width)) (plan .k - left) (curveOf plan curve₀))
+    × (low ≡ lowest (symbols (plan .shape .p)) (suc (plan .shape .l)) (suc (plan .shape .width)) (plan .k - left) (curveOf (plan .shape) curve₀))
 
 abbrev level-μ-loop : level-lts.MeasureT-loop
-level-μ-loop curve₀ chosen₀ points word messages₀ plan left count i low found₀ c₀ curve chosen messages found c =
-    plan .p - c
+level-μ-loop curve₀ chosen₀ points word messages₀ plan left count shape i low found₀ c₀ curve chosen messages found c =
+    plan .shape .p - c
 
 level-sub-i : (t : ℕ) → level-lts.Need-sub-i (level-calls t) (level-at t) level.Post level-Inv-loop level-μ-loop
 level-sub-i t c = search needs
@@ -78,20 +78,20 @@ level-lowest-requires t c κs = search needs
 
 level-loop-holds : (t : ℕ) → level-lts.Need-loop-holds (level-calls t) (level-at t) level.Post level-Inv-loop level-μ-loop
 level-loop-holds t c =
-    let s = c .before .before .before .before .before .before .before .before in
+    let s = c .before .before .before .before .before .before .before .before .before in
     (going-none (s .pre .1 .0), c .lowest .ensures)
 
 level-fits-requires : (t : ℕ) → level-lts.Need-fits-requires (level-calls t) (level-at t) level.Post level-Inv-loop level-μ-loop
 level-fits-requires t c κs =
     let l = c .before .before .before in
-    let s = l .before .before .before .before .before .before .before .before .before in
+    let s = l .before .before .before .before .before .before .before .before .before .before in
     let g = going-searches (s .pre .1 .0) (l .loop .inv .0) in
     record { laid = g .laid; next = next-below g; small = c .before .if1 .taken }
 
 level-open-requires : (t : ℕ) → level-lts.Need-open-requires (level-calls t) (level-at t) level.Post level-Inv-loop level-μ-loop
 level-open-requires t c κs =
     let l = c .before .before .before .before .before .before .before .before in
-    let s = l .before .before .before .before .before .before .before .before .before in
+    let s = l .before .before .before .before .before .before .before .before .before .before in
     let g = l .loop .inv .0 in
     let h = c .before .before .before .before .before .before .if1 .taken in
     let e = fitting (s .pre .1 .0) g (l .loop .inv .1) (c .before .before .before .before .fits2 .ensures) (c .before .before .before .if2 .taken) in
@@ -106,7 +106,7 @@ level-loop-less t c = search needs
 level-loop-again : (t : ℕ) → level-lts.Need-loop-again (level-calls t) (level-at t) level.Post level-Inv-loop level-μ-loop
 level-loop-again t c =
     let l = c .before .before .before .before .before in
-    let s = l .before .before .before .before .before .before .before .before .before in
+    let s = l .before .before .before .before .before .before .before .before .before .before in
     let g = l .loop .inv .0 in
     let h = c .before .before .before .if1 .taken in
     let fit = c .before .fits2 .ensures in
@@ -129,14 +129,14 @@ level-same-length-2 t c = c .before .before .loop .inv .0 .long
 level-same-length-3 : (t : ℕ) → level-lts.Need-same-length-3 (level-calls t) (level-at t) level.Post level-Inv-loop level-μ-loop
 level-same-length-3 t c =
     let l = c .before .before in
-    going-messages (l .before .before .before .before .before .before .before .before .before .pre .1 .0) (l .loop .inv .0)
+    going-messages (l .before .before .before .before .before .before .before .before .before .before .pre .1 .0) (l .loop .inv .0)
 
 level-returns : (t : ℕ) → level-lts.Need-returns (level-calls t) (level-at t) level.Post level-Inv-loop level-μ-loop
 level-returns t c =
     let l = c .before .before in
-    let s = l .before .before .before .before .before .before .before .before .before in
+    let s = l .before .before .before .before .before .before .before .before .before .before in
     let g = l .loop .inv .0 in
-    let e : l .loop .c ≡ s .args .plan .p = omega (arith, g .upto) in
+    let e : l .loop .c ≡ s .args .plan .shape .p = omega (arith, g .upto) in
     going-all (s .pre .1 .0) g e
 
 open-sub-i : (t : ℕ) → open-lts.Need-sub-i (open-calls t) (open-at t) open.Post
@@ -147,7 +147,7 @@ open-slice-write-chosen t c = search needs
 
 open-keep-requires : (t : ℕ) → open-lts.Need-keep-requires (open-calls t) (open-at t) open.Post
 open-keep-requires t c κs =
-    let s = c .before .before .before .before .before .before .before .before .before in
+    let s = c .before .before .before .before .before .before .before .before .before .before in
     let a = s .pre .1 in
     let e = c .before .before .if1 .taken in
     (a .0 .received, (spelt-last (a .0) (a .1 .0) e, rw (with-last (a .0) (a .1 .0) e) (a .1 .1)))
@@ -160,7 +160,7 @@ open-same-length-2 t c = search needs
 
 open-returns : (t : ℕ) → open-lts.Need-returns (open-calls t) (open-at t) open.Post
 open-returns t c =
-    let s = c .before .before .before .before .before .before .before .before .before .before .before .before in
+    let s = c .before .before .before .before .before .before .before .before .before .before .before .before .before in
     let a = s .pre .1 in
     let e = c .before .before .before .before .before .if1 .taken in
     record { same = refl; front = front-kept (a .0) (a .1 .0); wrote = rw (with-last (a .0) (a .1 .0) e) at (c .before .before .keep .ensures) }
@@ -173,7 +173,7 @@ open-sub-level t c = search needs
 
 open-level-requires : (t : ℕ) → open-lts.Need-level-requires (open-calls t) (open-at t) open.Post
 open-level-requires t c κs =
-    let s = c .before .before .before .before .before .before .before .before .before .before .before .before .before .before in
+    let s = c .before .before .before .before .before .before .before .before .before .before .before .before .before .before .before in
     let a = s .pre .1 in
     let n : 1 < s .args .left = omega (arith, a .0 .some, c .before .before .before .before .before .before .before .if1 .left) in
     let shift = c .before .before .before .before .before .shift .ensures in (
@@ -188,7 +188,7 @@ open-shift-requires-2 : (t : ℕ) → open-lts.Need-shift-requires-2 (open-calls
 open-shift-requires-2 t c κs =
     let s =
     c .before .before .before .before .before .before .before .before .before .before .before .before .before .before .before .before .before
-    .before .before .before .before .before .before in
+    .before .before .before .before .before .before .before in
     let a = s .pre .1 in
     back-tries (a .0) (a .1 .0)
     (c .before .before .before .before .before .before .before .before .before .before .before .before .before .before .shift .ensures)
@@ -201,7 +201,7 @@ open-same-length-4 : (t : ℕ) → open-lts.Need-same-length-4 (open-calls t) (o
 open-same-length-4 t c =
     let s =
     c .before .before .before .before .before .before .before .before .before .before .before .before .before .before .before .before .before
-    .before .before .before .before .before .before .before .before .before in
+    .before .before .before .before .before .before .before .before .before .before in
     c .before .before .before .before .before .before .before .before .before .before .before .level .kept .1 .0
     ∙ length-set (s .args .chosen .now) (s .args .plan .k - s .args .left) (s .args .c)
 
@@ -212,7 +212,7 @@ open-returns-2 : (t : ℕ) → open-lts.Need-returns-2 (open-calls t) (open-at t
 open-returns-2 t c =
     let s =
     c .before .before .before .before .before .before .before .before .before .before .before .before .before .before .before .before .before
-    .before .before .before .before .before .before .before .before .before in
+    .before .before .before .before .before .before .before .before .before .before in
     let a = s .pre .1 in
     back-leaves (a .0) (a .1 .0)
     (c .before .before .before .before .before .before .before .before .before .before .before .before .before .before .before .before .before

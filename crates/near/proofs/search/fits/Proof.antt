@@ -14,11 +14,11 @@ use Rattle.near.proofs.search.fits.Statement.{statement}
 use Rattle.near.proofs.search.fits.Tie as tie
 
 abbrev Inv-loop : tie.InvT-loop
-Inv-loop curve plan i low c p x sum₀ j₀ sum j =
-    (j ≤ suc (plan .l)) × (sum .value ≡ horner (plan .p) c (suc (plan .l)) (sliceOf plan curve i low) j .byte)
+Inv-loop curve shape i low c p x sum₀ j₀ sum j =
+    (j ≤ suc (shape .l)) × (sum .value ≡ horner (shape .p) c (suc (shape .l)) (sliceOf shape curve i low) j .byte)
 
 abbrev μ-loop : tie.MeasureT-loop
-μ-loop curve plan i low c p x sum₀ j₀ sum j = j
+μ-loop curve shape i low c p x sum₀ j₀ sum j = j
 
 add-j : tie.Need-add-j Inv-loop μ-loop
 add-j c = let h = c .before .before .pre .laid .fine .high in search needs
@@ -26,7 +26,7 @@ add-j c = let h = c .before .before .pre .laid .fine .high in search needs
 loop-holds : tie.Need-loop-holds Inv-loop μ-loop
 loop-holds c =
     let s = c .before .before .args in
-    (search needs, rw add-one (sym (horner-none (s .plan .p) (s .c) (suc (s .plan .l)) (sliceOf (s .plan) (s .curve .now) (s .i) (s .low)))))
+    (search needs, rw add-one (sym (horner-none (s .shape .p) (s .c) (suc (s .shape .l)) (sliceOf (s .shape) (s .curve .now) (s .i) (s .low)))))
 
 sub-j : tie.Need-sub-j Inv-loop μ-loop
 sub-j c = search needs
@@ -43,8 +43,8 @@ product-requires c κs =
       left = s .pre .small;
       right =
           rw (l .loop .inv .1) (byte-below (s .pre .laid .fine .size)
-          (horner (s .args .plan .p) (s .args .c) (suc (s .args .plan .l))
-          (sliceOf (s .args .plan) (s .args .curve .now) (s .args .i) (s .args .low))
+          (horner (s .args .shape .p) (s .args .c) (suc (s .args .shape .l))
+          (sliceOf (s .args .shape) (s .args .curve .now) (s .args .i) (s .args .low))
           (l .loop .j)));
     }
 
@@ -56,7 +56,7 @@ sum-requires c κs =
       size = s .pre .laid .fine .size;
       left =
           rw (c .before .symbol-at .ensures)
-          (byte-below (s .pre .laid .fine .size) (sliceOf (s .args .plan) (s .args .curve .now) (s .args .i) (s .args .low) (l .loop .j - 1)));
+          (byte-below (s .pre .laid .fine .size) (sliceOf (s .args .shape) (s .args .curve .now) (s .args .i) (s .args .low) (l .loop .j - 1)));
       right = rw (c .product .ensures) (timesBytes-below (s .pre .laid .fine .size) (s .args .c) (l .loop .sum .value));
     }
 
@@ -69,8 +69,8 @@ loop-again c =
     let s = l .before .before .before .args in (
       search needs,
       c .sum .ensures ∙ rw (c .before .product .ensures, c .before .before .symbol-at .ensures, l .loop .inv .1) (horner-more
-          (s .plan .p) (s .c) (suc (s .plan .l)) (sliceOf (s .plan) (s .curve .now) (s .i) (s .low)) _ (l .loop .j) (search needs) (search needs)
-          (symbol-byte (s .plan .p) _)),
+          (s .shape .p) (s .c) (suc (s .shape .l)) (sliceOf (s .shape) (s .curve .now) (s .i) (s .low)) _ (l .loop .j) (search needs) (search needs)
+          (symbol-byte (s .shape .p) _)),
     )
 
 returns : tie.Need-returns Inv-loop μ-loop
@@ -78,12 +78,12 @@ returns c =
     let l = c .before .before in
     let s = l .before .before .before .args in
     let z : l .loop .j ≡ 0 = search needs in
-    let f = sliceOf (s .plan) (s .curve .now) (s .i) (s .low) in
-    let e : l .loop .sum .value ≡ value (symbols (s .plan .p) .ring) (symbol (s .plan .p) (s .c)) (suc (s .plan .l)) f .byte =
-    l .loop .inv .1 ∙ rw (z, horner-all (s .plan .p) (s .c) (suc (s .plan .l)) f) in
+    let f = sliceOf (s .shape) (s .curve .now) (s .i) (s .low) in
+    let e : l .loop .sum .value ≡ value (symbols (s .shape .p) .ring) (symbol (s .shape .p) (s .c)) (suc (s .shape .l)) f .byte =
+    l .loop .inv .1 ∙ rw (z, horner-all (s .shape .p) (s .c) (suc (s .shape .l)) f) in
     record {
-      holds = λ h. zero-is (s .plan .p) (sym e ∙ eqb-true (l .loop .sum .value) 0 h);
-      fails = λ h d. eqb-false (l .loop .sum .value) 0 h (e ∙ byte-zero (s .plan .p) d);
+      holds = λ h. zero-is (s .shape .p) (sym e ∙ eqb-true (l .loop .sum .value) 0 h);
+      fails = λ h d. eqb-false (l .loop .sum .value) 0 h (e ∙ byte-zero (s .shape .p) d);
     }
 
 pub fits-spec : {M : Type 1} → statement M

@@ -32,7 +32,8 @@ add-result c =
     let s = c .before .before .before .before .before .before .before .before .before .before .before .before in
     let e = kept-one (s .args .plan) (s .args .points .now) (s .args .word .now) (s .args .chosen .now)
     (c .before .before .before .before .before .before .agreements .ensures) (c .before .before .before .before .if1 .left) in
-    omega (arith, count-one e (s .pre .0 .some) (s .pre .1 .1))
+    let d = s .pre .0 .degree in
+    omega (arith, count-one e (omega arith) (s .pre .1 .1))
 
 same-length : tie.Need-same-length
 same-length c = search needs

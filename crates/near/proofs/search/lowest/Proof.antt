@@ -13,11 +13,11 @@ use Rattle.near.proofs.search.lowest.Statement.{statement}
 use Rattle.near.proofs.search.lowest.Tie as tie
 
 abbrev Inv-loop : tie.InvT-loop
-Inv-loop curve plan i v₀ v =
-    (v ≤ suc (plan .width)) × ((q : ℕ) → q < v → some? (symbols (plan .p)) (suc (plan .l)) (sliceOf plan curve i q) ≡ false)
+Inv-loop curve shape i v₀ v =
+    (v ≤ suc (shape .width)) × ((q : ℕ) → q < v → some? (symbols (shape .p)) (suc (shape .l)) (sliceOf shape curve i q) ≡ false)
 
 abbrev μ-loop : tie.MeasureT-loop
-μ-loop curve plan i v₀ v = suc (plan .width) - v
+μ-loop curve shape i v₀ v = suc (shape .width) - v
 
 loop-holds : tie.Need-loop-holds Inv-loop μ-loop
 loop-holds c = (search needs, λ q h. absurd (omega arith))
@@ -29,7 +29,7 @@ returns : tie.Need-returns Inv-loop μ-loop
 returns c =
     let l = c .before .before .before .before in
     let s = l .before .before in
-    sym (least-at (suc (s .args .plan .width)) _ (l .loop .v) (search needs) (l .loop .inv .1)
+    sym (least-at (suc (s .args .shape .width)) _ (l .loop .v) (search needs) (l .loop .inv .1)
     (λ h. sym (c .before .stands .ensures) ∙ c .if2 .taken))
 
 add-v : tie.Need-add-v Inv-loop μ-loop
@@ -47,7 +47,7 @@ returns-2 : tie.Need-returns-2 Inv-loop μ-loop
 returns-2 c =
     let l = c .before .before in
     let s = l .before .before in
-    sym (least-at (suc (s .args .plan .width)) _ (l .loop .v) (search needs) (l .loop .inv .1) (λ h. absurd (omega arith)))
+    sym (least-at (suc (s .args .shape .width)) _ (l .loop .v) (search needs) (l .loop .inv .1) (λ h. absurd (omega arith)))
 
 pub lowest-spec : {M : Type 1} → statement M
 lowest-spec =

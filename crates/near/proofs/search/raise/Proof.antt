@@ -9,10 +9,10 @@ use Rattle.near.proofs.search.raise.Statement.{statement}
 use Rattle.near.proofs.search.raise.Tie as tie
 
 abbrev Inv-loop : tie.InvT-loop
-Inv-loop curve₀ plan i c j q₀ curve q = (j ≤ q) × (q ≤ plan .l) × Lifted plan i (c .value) j q curve₀ curve
+Inv-loop curve₀ shape i c j q₀ curve q = (j ≤ q) × (q ≤ shape .l) × Lifted shape i (c .value) j q curve₀ curve
 
 abbrev μ-loop : tie.MeasureT-loop
-μ-loop curve₀ plan i c j q₀ curve q = plan .l - q
+μ-loop curve₀ shape i c j q₀ curve q = shape .l - q
 
 loop-holds : tie.Need-loop-holds Inv-loop μ-loop
 loop-holds c = (search needs, search needs, raised-none (c .before .pre .0 .laid))
@@ -41,7 +41,7 @@ same-length c = c .before .before .loop .inv .2 .rest .long
 returns : tie.Need-returns Inv-loop μ-loop
 returns c =
     let l = c .before .before in
-    let e : l .loop .q ≡ l .before .before .args .plan .l = search needs in
+    let e : l .loop .q ≡ l .before .before .args .shape .l = search needs in
     rw e at (l .loop .inv .2)
 
 pub raise-spec : {M : Type 1} → statement M

@@ -5,6 +5,9 @@ use Rattle.near.proofs.search.Levels.{first-searches, first-room, few, 
 use Rattle.near.proofs.search.run.Statement.{statement}
 use Rattle.near.proofs.search.run.Tie as tie
 
+cast-plan-of : tie.Need-cast-plan-of
+cast-plan-of c = search needs
+
 plan-of-requires : tie.Need-plan-of-requires
 plan-of-requires c κs = search needs
 
@@ -39,6 +42,7 @@ pub run-spec : {M : Type 1} → statement M
 run-spec =
     tie.close
     (tie.spec
+    cast-plan-of
     plan-of-requires
     slice-aggregate-level
     level-requires

@@ -6,10 +6,10 @@ use Rattle.near.proofs.search.shift.Statement.{statement}
 use Rattle.near.proofs.search.shift.Tie as tie
 
 abbrev Inv-loop : tie.InvT-loop
-Inv-loop curve₀ plan i c j₀ curve j = Shifting plan i (c .value) j curve₀ curve
+Inv-loop curve₀ shape i c j₀ curve j = Shifting shape i (c .value) j curve₀ curve
 
 abbrev μ-loop : tie.MeasureT-loop
-μ-loop curve₀ plan i c j₀ curve j = j
+μ-loop curve₀ shape i c j₀ curve j = j
 
 loop-holds : tie.Need-loop-holds Inv-loop μ-loop
 loop-holds c = shifting-none (c .before .pre .laid)

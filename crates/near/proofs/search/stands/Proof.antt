@@ -12,10 +12,10 @@ use Rattle.near.proofs.search.stands.Statement.{statement}
 use Rattle.near.proofs.search.stands.Tie as tie
 
 abbrev Inv-loop : tie.InvT-loop
-Inv-loop curve plan i v j₀ j = (j ≤ suc (plan .l)) × ((q : ℕ) → q < j → sliceOf plan curve i v q ≡ symbol (plan .p) 0)
+Inv-loop curve shape i v j₀ j = (j ≤ suc (shape .l)) × ((q : ℕ) → q < j → sliceOf shape curve i v q ≡ symbol (shape .p) 0)
 
 abbrev μ-loop : tie.MeasureT-loop
-μ-loop curve plan i v j₀ j = suc (plan .l) - j
+μ-loop curve shape i v j₀ j = suc (shape .l) - j
 
 loop-holds : tie.Need-loop-holds Inv-loop μ-loop
 loop-holds c = (search needs, λ q h. absurd (omega arith))
@@ -27,9 +27,9 @@ returns : tie.Need-returns Inv-loop μ-loop
 returns c =
     let l = c .before .before .before .before in
     let s = l .before .before in
-    sym (some-one (symbols (s .args .plan .p)) (suc (s .args .plan .l)) (sliceOf (s .args .plan) (s .args .curve .now) (s .args .i) (s .args .v))
+    sym (some-one (symbols (s .args .shape .p)) (suc (s .args .shape .l)) (sliceOf (s .args .shape) (s .args .curve .now) (s .args .i) (s .args .v))
     (l .loop .j) (search needs)
-    (λ z. c .if2 .taken (c .before .symbol-at .ensures ∙ byte-zero (s .args .plan .p) z)))
+    (λ z. c .if2 .taken (c .before .symbol-at .ensures ∙ byte-zero (s .args .shape .p) z)))
 
 add-j : tie.Need-add-j Inv-loop μ-loop
 add-j c = search needs
@@ -41,13 +41,13 @@ loop-again : tie.Need-loop-again Inv-loop μ-loop
 loop-again c =
     let l = c .before .before .before .before in
     let s = l .before .before in
-    (search needs, below-more _ (l .loop .j) (l .loop .inv .1) (zero-is (s .args .plan .p) (sym (c .before .symbol-at .ensures) ∙ c .if2 .left)))
+    (search needs, below-more _ (l .loop .j) (l .loop .inv .1) (zero-is (s .args .shape .p) (sym (c .before .symbol-at .ensures) ∙ c .if2 .left)))
 
 returns-2 : tie.Need-returns-2 Inv-loop μ-loop
 returns-2 c =
     let l = c .before .before in
     let s = l .before .before in
-    sym (some-none (symbols (s .args .plan .p)) (suc (s .args .plan .l)) (sliceOf (s .args .plan) (s .args .curve .now) (s .args .i) (s .args .v))
+    sym (some-none (symbols (s .args .shape .p)) (suc (s .args .shape .l)) (sliceOf (s .args .shape) (s .args .curve .now) (s .args .i) (s .args .v))
     (λ q h. l .loop .inv .1 q (search needs)))
 
 pub stands-spec : {M : Type 1} → statement M

@@ -1,76 +1,81 @@
 -- `take_above` meets its contract: the kernel takes off the negative of c times the slot above, from x^i on. Assumes nothing.
+use Prim.Native.Nat.{suc}
 use native.Mathlib.Numerals.{add-one}
 use native.Mathlib.Omega.{arith}
 use borrow.Author.Needs.{needs}
-use Rattle.near.proofs.search.Shifting.{level-inside, above, take-small, subtracts, taken}
+use Rattle.near.proofs.search.Laying.{place-is, place-slot}
+use Rattle.near.proofs.search.Shifting.{level-inside, subtracts, taken}
 use Rattle.near.proofs.search.take_above.Statement.{statement}
 use Rattle.near.proofs.search.take_above.Tie as tie
 
-add-slot : tie.Need-add-slot
-add-slot c = search needs
+place-requires : tie.Need-place-requires
+place-requires c κs =
+    let p = c .before .pre in
+    record { fine = p .0 .laid .fine; row = omega arith; power = omega arith; degree = omega (arith, level-inside (p .0) (p .1)) }
+
+add-place : tie.Need-add-place
+add-place c = search needs
+
+place-requires-2 : tie.Need-place-requires-2
+place-requires-2 c κs =
+    let p = c .before .before .pre in
+    record { fine = p .0 .laid .fine; row = omega arith; power = omega arith; degree = omega arith }
+
+slot-requires : tie.Need-slot-requires
+slot-requires c κs = search needs
+
+sub-len : tie.Need-sub-len
+sub-len c = let p = c .before .before .before .before .pre in rw (c .slot .ensures) (omega (arith, level-inside (p .0) (p .1)))
 
 negative-requires : tie.Need-negative-requires
 negative-requires c κs = search needs
 
-mul-subtract : tie.Need-mul-subtract
-mul-subtract c =
-    let s = c .before .before .before .before in
-    let p = s .pre in
-    rw (add-one (s .args .plan .width)) (omega (arith, take-small (p .0) (p .1), above (p .0) (p .1)))
-
-add-subtract : tie.Need-add-subtract
-add-subtract c =
-    let s = c .before .before .before .before in
-    let p = s .pre in
-    rw (add-one (s .args .plan .width))
-    (omega (arith, take-small (p .0) (p .1), above (p .0) (p .1), level-inside (p .0) (p .1)))
-
-add-subtract-2 : tie.Need-add-subtract-2
-add-subtract-2 c = search needs
-
-mul-subtract-2 : tie.Need-mul-subtract-2
-mul-subtract-2 c =
-    let s = c .before .before .before .before in
-    let p = s .pre in
-    rw (add-one (s .args .plan .width), add-one (s .args .q)) (omega (arith, take-small (p .0) (p .1)))
-
-sub-subtract : tie.Need-sub-subtract
-sub-subtract c =
-    let p = c .before .before .before .before .pre in
-    omega (arith, level-inside (p .0) (p .1))
-
 subtract-requires : tie.Need-subtract-requires
 subtract-requires c κs =
-    let s = c .before .before .before .before in
-    let p = s .pre in
-    rw (add-one (s .args .plan .width), add-one (s .args .q), c .before .negative .ensures) (subtracts (p .0) (p .1))
+    let l = c .before .before in
+    let s = l .before .before .before .before in
+    rw (
+      l .before .before .place .ensures,
+      l .before .place2 .ensures,
+      l .slot .ensures,
+      c .negative .ensures,
+      add-one (s .args .q),
+      place-slot (s .args .shape) (suc (s .args .q)),
+      place-is (s .args .shape) (s .args .q) (s .args .i),
+    )
+    (subtracts (s .pre .0) (s .pre .1))
 
 same-length : tie.Need-same-length
 same-length c = search needs
 
 returns : tie.Need-returns
 returns c =
-    let s = c .before .before .before .before .before .before .before in
-    let p = s .pre in
+    let u = c .before .before in
+    let n = u .before in
+    let l = n .before .before in
+    let s = l .before .before .before .before in
     rw (
-      c .before .before .subtract .ensures,
-      add-one (s .args .plan .width),
+      u .subtract .ensures,
+      l .before .before .place .ensures,
+      l .before .place2 .ensures,
+      l .slot .ensures,
+      n .negative .ensures,
       add-one (s .args .q),
-      c .before .before .before .before .negative .ensures,
+      place-slot (s .args .shape) (suc (s .args .q)),
+      place-is (s .args .shape) (s .args .q) (s .args .i),
     )
-    (taken (p .0) (p .1))
+    (taken (s .pre .0) (s .pre .1))
 
 pub take-above-spec : {M : Type 1} → statement M
 take-above-spec =
     tie.close
     (tie.spec
-    add-slot
+    place-requires
+    add-place
+    place-requires-2
+    slot-requires
+    sub-len
     negative-requires
-    mul-subtract
-    add-subtract
-    add-subtract-2
-    mul-subtract-2
-    sub-subtract
     subtract-requires
     same-length
     returns)
