@@ -1,8 +1,7 @@
 // The messages near a received word, in one call.
-ghost use Prim.Native.Nat.{_+_, _-_, _*_, _<_, _≤_};
+ghost use Prim.Native.Nat.{_≤_};
 ghost use lib.ListN.{length};
 ghost use Rattle.poly.specs.Table.{First};
-ghost use Rattle.poly.specs.Lent.{Zeroed};
 ghost use Rattle.rows.specs.Bytes.{shape, curveBytes};
 ghost use Rattle.rows.specs.Jobs.{startTable};
 ghost use Rattle.near.specs.Job.{HasListed};
@@ -53,18 +52,6 @@ fn interpolate(
     }
 }
 
-// The first `len` bytes become zero.
-fn clear(room: &mut [u8], len: usize)
-    requires { ⌜ len ≤ length (now room) ⌝ }
-    ensures { λ _. ⌜ Zeroed len (now (room .entry)) (now (room .exit)) ⌝ }
-{
-    let mut i = 0;
-    while i < len {
-        room[i] = 0;
-        i += 1;
-    }
-}
-
 // The list job: the curve, then, where m t is above its weight, the messages found on it.
 pub fn list(
     p: u8,
@@ -91,7 +78,7 @@ pub fn list(
     }
     let mut curve = [0u8; CURVE_MOST];
     let weighed = interpolate(p, points, word, k, m, l, room, &mut curve);
-    clear(room, WORKING_ROOM);
+    poly::clear(room, WORKING_ROOM);
     if m as u16 * t as u16 <= weighed.weight as u16 {
         return Near {
             number: 13,

@@ -1,9 +1,10 @@
 // Polynomials in x in lent bytes, lowest power first, and the job encode.
 ghost use mathlib.Core.Path.{_≡_};
-ghost use Prim.Native.Nat.{_+_, min};
+ghost use Prim.Native.Nat.{_+_, _≤_, min};
 ghost use lib.ListN.{length};
 ghost use Rattle.poly.specs.Encode.{Encoded, valueAt};
 ghost use Rattle.poly.specs.Buffers.{Coefficients, Factors, productFrom, Product, Halves, correctionOf, Places, Interpolated};
+ghost use Rattle.poly.specs.Lent.{Zeroed};
 use field::Symbol;
 
 pub mod limits; // limits.rt: the limits of the numbers that a caller gives
@@ -11,6 +12,18 @@ mod refusals; // refusals.rt: the tests of arguments, and encode's refusals
 
 pub use refusals::repeated;
 pub use refusals::too_large;
+
+// The first `len` bytes become zero.
+pub fn clear(xs: &mut [u8], len: usize)
+    requires { ⌜ len ≤ length (now xs) ⌝ }
+    ensures { λ _. ⌜ Zeroed len (now (xs .entry)) (now (xs .exit)) ⌝ }
+{
+    let mut i = 0;
+    while i < len {
+        xs[i] = 0;
+        i += 1;
+    }
+}
 
 // The value at a, by Horner's rule.
 pub fn value_at(coefficients: &[u8], a: u8, p: u8) -> u8

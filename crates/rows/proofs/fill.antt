@@ -1,4 +1,4 @@
--- What filling the rows stands on: the bytes while they are cleared, copied and multiplied.
+-- What filling the rows stands on: the bytes while they are copied and multiplied.
 pub mod Copies
 pub mod Slots
 pub mod LowRows

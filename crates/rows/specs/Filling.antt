@@ -1,5 +1,4 @@
 -- What the functions that fill the rows ask and give.
---   cleared len xs            the first `len` bytes made zero
 --   copied from to len xs     the `len` bytes at `from` brought to `to`, which is further on; Copies  what this asks
 --   Power                     the x-polynomial in a region, times a power of f
 --   slotsAt p base slot xs    the curve whose slots of `slot` bytes follow each other from `base` on
@@ -23,9 +22,6 @@ use Rattle.curves.specs.Start.{startRow}
 use Rattle.rows.specs.Bytes.{slot, curveBytes, rowsBytes, place, Holds}
 use Rattle.rows.specs.Work.{Fine}
 use Rattle.rows.specs.declared.Shape.{Shape}
-
-unfoldable pub cleared : ℕ → List ℕ → List ℕ
-cleared len xs = sets xs 0 (tabulate len (λ i. 0))
 
 unfoldable pub copied : ℕ → ℕ → ℕ → List ℕ → List ℕ
 copied from to len xs = sets xs to (tabulate len (λ i. getD xs (from + i) 0))

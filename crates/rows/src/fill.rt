@@ -1,25 +1,13 @@
 // The rows that a start fills.
 ghost use mathlib.Core.Path.{_≡_};
-ghost use Prim.Native.Nat.{suc, _+_, _-_, _*_, _<_, _≤_};
-ghost use lib.ListN.{length};
+ghost use Prim.Native.Nat.{suc, _*_};
 ghost use Rattle.poly.specs.Buffers.{Factors};
 ghost use Rattle.poly.specs.Lent.{Untouched};
 ghost use Rattle.rows.specs.Bytes.{rowsBytes};
-ghost use Rattle.rows.specs.Filling.{cleared, copied, Copies, Power, RaisedSlot, Raised, FillsLow, FilledLow, RaisesRow, raisedRow, Fills};
+ghost use Rattle.rows.specs.Filling.{copied, Copies, Power, RaisedSlot, Raised, FillsLow, FilledLow, RaisesRow, raisedRow, Fills};
 ghost use Rattle.rows.specs.Filling.{Filled};
 use crate::Shape;
 use field::Symbol;
-
-fn clear(rows: &mut [u8], len: usize)
-    requires { ⌜ len ≤ length (now rows) ⌝ }
-    ensures { λ _. ⌜ now (rows .exit) ≡ cleared len (now (rows .entry)) ⌝ }
-{
-    let mut i = 0;
-    while i < len {
-        rows[i] = 0;
-        i += 1;
-    }
-}
 
 fn copy(rows: &mut [u8], from: usize, to: usize, len: usize)
     requires { ⌜ Copies from to len (now rows) ⌝ }
@@ -103,7 +91,7 @@ pub fn fill(rows: &mut [u8], shape: Shape, m: usize, work: &[u8])
 {
     let h = &work[..32];
     let e = &work[32..];
-    clear(rows, crate::layout::rows_bytes(shape));
+    poly::clear(rows, crate::layout::rows_bytes(shape));
     let mut i = 0;
     while i <= shape.l {
         if i <= m {

@@ -13,17 +13,17 @@ use Rattle.field.specs.Operations.{Listed}
 use Rattle.field.proofs.SymbolLaws.{symbols-field, zero-byte}
 use Rattle.poly.specs.Polynomials.{Series, zeroS, consS}
 use Rattle.poly.specs.Buffers.{AllBelow, Kept}
-use Rattle.poly.specs.Lent.{Untouched}
+use Rattle.poly.specs.Lent.{Untouched, Zeroed}
 use Rattle.poly.proofs.BufferLaws.{below-take, below-drop}
 use Rattle.curves.specs.Curves.{Curve}
 use Rattle.curves.specs.Start.{startRow}
 use Rattle.curves.proofs.RaisedRows.{startRow-high}
 use Rattle.rows.specs.Bytes.{slot, curveBytes, rowsBytes, place, Holds}
-use Rattle.rows.specs.Filling.{cleared, Copies, HoldsRow, FilledLow, RaisesRow, raisedRow, Fills}
+use Rattle.rows.specs.Filling.{Copies, HoldsRow, FilledLow, RaisesRow, raisedRow, Fills}
 use Rattle.rows.specs.declared.Shape.{Shape}
 use Rattle.rows.proofs.Placing.{slot-end, row-end, rows-apart, slot-inside}
 use Rattle.rows.proofs.fill.LowRows.{slot-fits}
-use Rattle.rows.proofs.fill.Copies.{length-cleared, cleared-inside, cleared-outside, length-copied, copied-inside, copied-outside}
+use Rattle.rows.proofs.fill.Copies.{length-copied, copied-inside, copied-outside}
 
 -- y times the row before
 module _ {S : Shape} {i : ℕ} {xs : List ℕ} (a : RaisesRow S i xs) where
@@ -80,14 +80,8 @@ pub record RowsFilled (S : Shape) (rows : ℕ → Curve (symbols (S .p) .ring)) 
   pub rest : Untouched (rowsBytes S) before after
 
 module _ {S : Shape} {rows : ℕ → Curve (symbols (S .p) .ring)} where
-  pub filled-none : {xs ys : List ℕ} → rowsBytes S ≤ length xs → ys ≡ cleared (rowsBytes S) xs → RowsFilled S rows 0 xs ys
-  filled-none {xs} room e =
-      rw e
-      record {
-        done = λ q k. absurd (omega arith);
-        bare = λ q k g. cleared-inside xs (rowsBytes S) q room g;
-        rest = record { long = length-cleared xs (rowsBytes S); same = cleared-outside xs (rowsBytes S) };
-      }
+  pub filled-none : {xs ys : List ℕ} → Zeroed (rowsBytes S) xs ys → RowsFilled S rows 0 xs ys
+  filled-none z = record { done = λ q k. absurd (omega arith); bare = λ q k g. z .zeros q g; rest = z .rest }
 
   pub filled-begins : {i : ℕ} {xs ys : List ℕ} → RowsFilled S rows i xs ys → RowsFilled S rows i ys ys
   filled-begins f = record { done = f .done; bare = f .bare; rest = record { long = refl; same = λ q k. refl } }

@@ -14,8 +14,6 @@ use Rattle.rows.proofs.fill.FilledRows.{RowsFilled, toFill, filled-none
 use Rattle.rows.proofs.fill.FilledRows.{h-below, e-below}
 use Rattle.rows.proofs.fill.fill.Statement.{statement}
 use Rattle.rows.proofs.fill.fill.Tie as tie
-use Rattle.rows.proofs.fill.fill.Reads as reads
-use Rattle.rows.proofs.fill.fill.Lts as lts
 
 -- the two parts of the work
 abbrev hOf : List ℕ → List ℕ
@@ -34,9 +32,7 @@ abbrev μ-loop : tie.MeasureT-loop
 first : (c : tie.After-clear Inv-loop μ-loop) → let s = c .before .before .before .before .before .before .before in let a = s .args in
     RowsFilled (a .shape) (toFill (a .shape) (a .m) (hOf (a .work .now)) (eOf (a .work .now))) 0 (a .rows .now) (c .clear .last .0)
 first c =
-    let b = c .before in
-    let s = b .before .before .before .before .before .before in
-    filled-none (s .pre .room) (rw (b .rows-bytes .ensures) at (c .clear .ensures))
+    filled-none (rw (c .before .rows-bytes .ensures) at (c .clear .ensures))
 
 abbrev s : tie.At-loop Inv-loop μ-loop → tie.Start Inv-loop μ-loop
 s l = l .before .before .before .before .before .before .before .before .before .before

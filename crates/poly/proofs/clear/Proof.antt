@@ -1,4 +1,4 @@
--- `near::clear` meets its contract: the bytes passed are zero, and the others as they were.
+-- `poly::clear` meets its contract: the bytes passed are zero, and the others as they were.
 use mathlib.Core.Path.{_≡_, refl, _∙_}
 use mathlib.Core.List.{List}
 use Prim.Native.Nat.{ℕ, _+_, _-_, _≤_, _<_}
@@ -7,15 +7,15 @@ use native.Mathlib.Omega.{arith}
 use lib.ListN.{length, getD, set, length-set}
 use lib.Seq.{getD-set-same, getD-set-other}
 use borrow.Author.Needs.{needs}
 use Rattle.poly.specs.Lent.{Zeroed}
-use Rattle.near.proofs.clear.Statement.{statement}
-use Rattle.near.proofs.clear.Tie as tie
+use Rattle.poly.proofs.clear.Statement.{statement}
+use Rattle.poly.proofs.clear.Tie as tie
 
 abbrev Inv-loop : tie.InvT-loop
-Inv-loop room₀ len i₀ room i = (i ≤ len) × Zeroed i room₀ room
+Inv-loop xs₀ len i₀ xs i = (i ≤ len) × Zeroed i xs₀ xs
 
 abbrev μ-loop : tie.MeasureT-loop
-μ-loop room₀ len i₀ room i = len - i
+μ-loop xs₀ len i₀ xs i = len - i
 
 -- one byte more
 zeroed-more : {i : ℕ} {before after : List ℕ} → Zeroed i before after → i < length after → Zeroed (i + 1) before (set after i 0)
@@ -36,8 +36,8 @@ zeroed-more {i} {before} {after} z inside =
 loop-holds : tie.Need-loop-holds Inv-loop μ-loop
 loop-holds c = (omega arith, record { zeros = λ q h. absurd (omega arith); rest = record { long = refl; same = λ q h. refl } })
 
-slice-write-room : tie.Need-slice-write-room Inv-loop μ-loop
-slice-write-room c = let s = c .before .loop .inv .1 .rest .long in omega (arith, c .before .before .pre)
+slice-write-xs : tie.Need-slice-write-xs Inv-loop μ-loop
+slice-write-xs c = let s = c .before .loop .inv .1 .rest .long in omega (arith, c .before .before .pre)
 
 add-i : tie.Need-add-i Inv-loop μ-loop
 add-i c = search needs
@@ -62,7 +62,7 @@ clear-spec =
     Inv-loop
     μ-loop
     loop-holds
-    slice-write-room
+    slice-write-xs
     add-i
     loop-less
     loop-again
