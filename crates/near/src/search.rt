@@ -85,7 +85,7 @@ fn fits(curve: &[u8], shape: Shape, i: usize, low: usize, c: u8) -> bool
         let a = Symbol {
             value: symbol_at(curve, shape, i, low, j),
         };
-        sum = a.sum(x.product(sum, p), p);
+        sum = a.plus_product(x, sum, p);
     }
     sum.value == 0
 }

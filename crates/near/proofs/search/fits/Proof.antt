@@ -6,7 +6,6 @@ use borrow.Author.Tests.{eqb-true, eqb-false}
 use borrow.Author.Needs.{needs}
 use Rattle.field.specs.Symbols.{symbol, symbols}
 use Rattle.field.proofs.SymbolLaws.{byte-below, byte-zero, zero-is, symbol-byte}
-use Rattle.field.proofs.OperationLaws.{timesBytes-below}
 use Rattle.poly.specs.Polynomials.{value}
 use Rattle.poly.proofs.BufferLaws.{horner, horner-none, horner-more, horner-all}
 use Rattle.near.specs.Work.{sliceOf}
@@ -34,41 +33,29 @@ sub-j c = search needs
 symbol-at-requires : tie.Need-symbol-at-requires Inv-loop μ-loop
 symbol-at-requires c κs = search needs
 
-product-requires : tie.Need-product-requires Inv-loop μ-loop
-product-requires c κs =
+plus-product-requires : tie.Need-plus-product-requires Inv-loop μ-loop
+plus-product-requires c κs =
     let l = c .before .before in
     let s = l .before .before .before in
-    record {
-      size = s .pre .laid .fine .size;
-      left = s .pre .small;
-      right =
-          rw (l .loop .inv .1) (byte-below (s .pre .laid .fine .size)
-          (horner (s .args .shape .p) (s .args .c) (suc (s .args .shape .l))
-          (sliceOf (s .args .shape) (s .args .curve .now) (s .args .i) (s .args .low))
-          (l .loop .j)));
-    }
-
-sum-requires : tie.Need-sum-requires Inv-loop μ-loop
-sum-requires c κs =
-    let l = c .before .before .before in
-    let s = l .before .before .before in
-    record {
-      size = s .pre .laid .fine .size;
-      left =
-          rw (c .before .symbol-at .ensures)
-          (byte-below (s .pre .laid .fine .size) (sliceOf (s .args .shape) (s .args .curve .now) (s .args .i) (s .args .low) (l .loop .j - 1)));
-      right = rw (c .product .ensures) (timesBytes-below (s .pre .laid .fine .size) (s .args .c) (l .loop .sum .value));
-    }
+    let f = sliceOf (s .args .shape) (s .args .curve .now) (s .args .i) (s .args .low) in
+    let size = s .pre .laid .fine .size in (
+      record { size = size; below = rw (c .symbol-at .ensures) (byte-below size (f (l .loop .j - 1))) },
+      record {
+        size = size;
+        left = s .pre .small;
+        right = rw (l .loop .inv .1) (byte-below size (horner (s .args .shape .p) (s .args .c) (suc (s .args .shape .l)) f (l .loop .j)));
+      },
+    )
 
 loop-less : tie.Need-loop-less Inv-loop μ-loop
 loop-less c = search needs
 
 loop-again : tie.Need-loop-again Inv-loop μ-loop
 loop-again c =
-    let l = c .before .before .before .before in
+    let l = c .before .before .before in
     let s = l .before .before .before .args in (
       search needs,
-      c .sum .ensures ∙ rw (c .before .product .ensures, c .before .before .symbol-at .ensures, l .loop .inv .1) (horner-more
+      c .plus-product .ensures ∙ rw (c .before .symbol-at .ensures, l .loop .inv .1) (horner-more
           (s .shape .p) (s .c) (suc (s .shape .l)) (sliceOf (s .shape) (s .curve .now) (s .i) (s .low)) _ (l .loop .j) (search needs) (search needs)
           (symbol-byte (s .shape .p) _)),
     )
@@ -96,8 +83,7 @@ fits-spec =
     loop-holds
     sub-j
     symbol-at-requires
-    product-requires
-    sum-requires
+    plus-product-requires
     loop-less
     loop-again
     returns)
