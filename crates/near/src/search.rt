@@ -29,11 +29,11 @@ fn symbol_at(curve: &[u8], shape: Shape, i: usize, v: usize, j: usize) -> u8
 {
     let lift = i * j;
     if v < lift {
-        return 0;
+        return Symbol::ZERO.value;
     }
     let e = v - lift;
     if shape.width < e {
-        return 0;
+        return Symbol::ZERO.value;
     }
     let at = rows::layout::place(shape, 0, j, e);
     curve[at]
@@ -47,7 +47,7 @@ fn stands(curve: &[u8], shape: Shape, i: usize, v: usize) -> bool
 {
     let mut j = 0;
     while j <= shape.l {
-        if symbol_at(curve, shape, i, v, j) != 0 {
+        if symbol_at(curve, shape, i, v, j) != Symbol::ZERO.value {
             return true;
         }
         j += 1;
@@ -87,7 +87,7 @@ fn fits(curve: &[u8], shape: Shape, i: usize, low: usize, c: u8) -> bool
         };
         sum = a.plus_product(x, sum, p);
     }
-    sum.value == 0
+    sum.value == Symbol::ZERO.value
 }
 
 // Slot q takes c x^i times the slot above.

@@ -108,14 +108,14 @@ pub fn interpolate(points: &[u8], word: &[u8], p: u8) -> [u8; 64]
     ensures { λ r. ⌜ Interpolated p (now (points .entry)) (now (word .entry)) (length (now (points .entry))) r ⌝ }
 {
     let mut work = [0u8; 64];
-    work[32] = 1;
+    work[32] = Symbol::ONE.value;
     let n = points.len();
     let mut s = 0;
     while s < n {
         let a = Symbol { value: points[s] };
         let c = correction(&work, a.value, word[s], p);
         field::subtract(&mut work, 0, 32, 32, c, p);
-        let factor = [a.negative(p).value, 1];
+        let factor = [a.negative(p).value, Symbol::ONE.value];
         multiply(&mut work, 32, 32, &factor, p);
         s += 1;
     }

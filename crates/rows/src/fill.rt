@@ -65,7 +65,7 @@ fn fill_low(rows: &mut [u8], shape: Shape, i: usize, m: usize, h: &[u8], e: &[u8
 {
     let slot = crate::layout::slot(shape);
     let base = i * crate::layout::curve_bytes(shape);
-    rows[base] = 1;
+    rows[base] = Symbol::ONE.value;
     times_power(rows, base, slot, e, m - i, shape.p);
     let mut q = 0;
     while q < i {

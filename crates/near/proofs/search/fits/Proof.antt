@@ -62,7 +62,7 @@ loop-again c =
 
 returns : tie.Need-returns Inv-loop μ-loop
 returns c =
-    let l = c .before .before in
+    let l = c .before .before .before in
     let s = l .before .before .before .args in
     let z : l .loop .j ≡ 0 = search needs in
     let f = sliceOf (s .shape) (s .curve .now) (s .i) (s .low) in

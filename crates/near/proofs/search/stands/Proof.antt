@@ -25,11 +25,11 @@ symbol-at-requires c κs = search needs
 
 returns : tie.Need-returns Inv-loop μ-loop
 returns c =
-    let l = c .before .before .before .before in
+    let l = c .before .before .before .before .before in
     let s = l .before .before in
     sym (some-one (symbols (s .args .shape .p)) (suc (s .args .shape .l)) (sliceOf (s .args .shape) (s .args .curve .now) (s .args .i) (s .args .v))
     (l .loop .j) (search needs)
-    (λ z. c .if2 .taken (c .before .symbol-at .ensures ∙ byte-zero (s .args .shape .p) z)))
+    (λ z. c .if2 .taken (c .before .before .symbol-at .ensures ∙ byte-zero (s .args .shape .p) z)))
 
 add-j : tie.Need-add-j Inv-loop μ-loop
 add-j c = search needs
@@ -39,9 +39,9 @@ loop-less c = search needs
 
 loop-again : tie.Need-loop-again Inv-loop μ-loop
 loop-again c =
-    let l = c .before .before .before .before in
+    let l = c .before .before .before .before .before in
     let s = l .before .before in
-    (search needs, below-more _ (l .loop .j) (l .loop .inv .1) (zero-is (s .args .shape .p) (sym (c .before .symbol-at .ensures) ∙ c .if2 .left)))
+    (search needs, below-more _ (l .loop .j) (l .loop .inv .1) (zero-is (s .args .shape .p) (sym (c .before .before .symbol-at .ensures) ∙ c .if2 .left)))
 
 returns-2 : tie.Need-returns-2 Inv-loop μ-loop
 returns-2 c =
