@@ -1,7 +1,7 @@
 // The messages found on a curve, symbol by symbol. The one curve is shifted in place: to choose the symbol c at x^i, y becomes y + c x^i, and
 // coming back y - c x^i, which restores every byte.
 ghost use mathlib.Core.Path.{_≡_};
-ghost use Prim.Native.Nat.{suc, _+_, _-_, _*_, _<_, _≤_};
+ghost use Prim.Native.Nat.{suc, _+_, _<_, _≤_};
 ghost use lib.ListN.{length, take};
 ghost use lib.Seq.{sets};
 ghost use Rattle.field.specs.Symbols.{symbols};

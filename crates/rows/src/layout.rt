@@ -1,7 +1,7 @@
 // How curves and rows lie in bytes: a slot is width + 1 bytes, a curve l + 1 slots, the rows l + 1 curves.
 
 ghost use mathlib.Core.Path.{_≡_};
-ghost use Prim.Native.Nat.{_+_, _-_, _*_, _≤_};
+ghost use Prim.Native.Nat.{_≤_};
 ghost use Rattle.rows.specs.Bytes.{shape, slot as slotOf, curveBytes, rowsBytes, place as placeOf};
 ghost use Rattle.rows.specs.Work.{Fine, Placed};
 use crate::Shape;

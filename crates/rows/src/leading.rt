@@ -1,5 +1,5 @@
 // Leading terms.
-ghost use Prim.Native.Nat.{_+_, _-_, _*_, _<_, _≤_};
+ghost use Prim.Native.Nat.{_+_, _<_, _≤_};
 ghost use lib.ListN.{length};
 ghost use Rattle.field.specs.Symbols.{symbols};
 ghost use Rattle.rows.specs.Bytes.{rowsOf};

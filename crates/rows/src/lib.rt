@@ -1,6 +1,6 @@
 // The rows of an interpolation in lent bytes: start, turn and finish.
 ghost use mathlib.Core.Path.{_≡_};
-ghost use Prim.Native.Nat.{_+_, _-_, _*_, _<_};
+ghost use Prim.Native.Nat.{_<_};
 ghost use Rattle.rows.specs.Jobs.{HasStarted, HasTurned, HasFinished, atRow, withNote};
 ghost use Rattle.rows.specs.Work.{Ready, Went};
 

@@ -1,6 +1,6 @@
 // Whether rows are as a turn leaves them.
 ghost use mathlib.Core.Path.{_≡_};
-ghost use Prim.Native.Nat.{suc, _+_, _-_, _*_, _<_, _≤_, max};
+ghost use Prim.Native.Nat.{suc, _≤_, max};
 ghost use lib.ListN.{length};
 ghost use Rattle.field.specs.Symbols.{symbols};
 ghost use Rattle.poly.specs.Buffers.{Decided};
