@@ -119,10 +119,11 @@ pub extern "C" fn pluck_turn(
         clear_back(back);
         return 9;
     }
+    let given = read_note(note);
     if back.len() < BACK_BYTES {
-        return read_note(note).turn(&mut [], allowance).number;
+        return given.turn(&mut [], allowance).number;
     }
-    let turned = read_note(note).turn(rows, allowance);
+    let turned = given.turn(rows, allowance);
     write_note(note, turned.note);
     write_back(
         back,
@@ -145,10 +146,11 @@ pub extern "C" fn pluck_finish(note: &[u8], rows: &[u8], curve: &mut [u8], back:
         clear_back(back);
         return 9;
     }
+    let given = read_note(note);
     if back.len() < BACK_BYTES {
-        return rows::finish(read_note(note), rows, &mut []).number;
+        return rows::finish(given, rows, &mut []).number;
     }
-    let finished = rows::finish(read_note(note), rows, curve);
+    let finished = rows::finish(given, rows, curve);
     write_back(
         back,
         Back {

@@ -27,12 +27,9 @@ finish-requires c κs = search needs
 returns-2 : tie.Need-returns-2
 returns-2 c =
     let refused = c .before in
-    let read = refused .before .before in
-    let short = read .before in
-    finish-short (short .before .if1 .left) (short .if2 .taken) (rw (read .read-note .ensures) at (refused .finish .ensures))
-
-read-note-requires-2 : tie.Need-read-note-requires-2
-read-note-requires-2 c κs = search needs
+    let short = refused .before .before in
+    let read = short .before in
+    finish-short (read .before .if1 .left) (short .if2 .taken) (rw (read .read-note .ensures) at (refused .finish .ensures))
 
 finish-requires-2 : tie.Need-finish-requires-2
 finish-requires-2 c κs = search needs
@@ -50,12 +47,12 @@ returns-3 : tie.Need-returns-3
 returns-3 c =
     let answered = c .before .before in
     let finished = answered .before .before .before .before in
-    let read = finished .before .before in
-    let long = read .before in
+    let long = finished .before .before in
+    let read = long .before in
     finish-done
-    (long .before .if1 .left)
+    (read .before .if1 .left)
     (long .if2 .left)
-    (rw (read .read-note2 .ensures) at (finished .finish2 .ensures))
+    (rw (read .read-note .ensures) at (finished .finish2 .ensures))
     (answered .write-back .ensures)
 
 pub pluck-finish-spec : {M : Type 1} → statement M
@@ -69,7 +66,6 @@ pluck-finish-spec =
     slice-aggregate-finish
     finish-requires
     returns-2
-    read-note-requires-2
     finish-requires-2
     write-back-requires
     same-length-2

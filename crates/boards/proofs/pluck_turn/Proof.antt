@@ -30,12 +30,9 @@ same-length-2 c = search needs
 returns-2 : tie.Need-returns-2
 returns-2 c =
     let refused = c .before in
-    let read = refused .before .before in
-    let short = read .before .before in
-    turn-short (short .before .if1 .left) (short .if2 .taken) (rw (read .read-note .ensures) at (refused .turn .ensures))
-
-read-note-requires-2 : tie.Need-read-note-requires-2
-read-note-requires-2 c κs = search needs
+    let short = refused .before .before in
+    let read = short .before in
+    turn-short (read .before .before .if1 .left) (short .if2 .taken) (rw (read .read-note .ensures) at (refused .turn .ensures))
 
 turn-requires-2 : tie.Need-turn-requires-2
 turn-requires-2 c κs = search needs
@@ -60,12 +57,12 @@ returns-3 c =
     let answered = c .before .before in
     let noted = answered .before .before .before .before in
     let turned = noted .before .before .before .before in
-    let read = turned .before .before in
-    let long = read .before .before in
+    let long = turned .before .before in
+    let read = long .before in
     turn-done
-    (long .before .if1 .left)
+    (read .before .before .if1 .left)
     (long .if2 .left)
-    (rw (read .read-note2 .ensures) at (turned .turn2 .ensures))
+    (rw (read .read-note .ensures) at (turned .turn2 .ensures))
     (noted .write-note .ensures)
     (answered .write-back .ensures)
 
@@ -81,7 +78,6 @@ pluck-turn-spec =
     turn-requires
     same-length-2
     returns-2
-    read-note-requires-2
     turn-requires-2
     write-note-requires
     write-back-requires
