@@ -18,7 +18,7 @@ use Rattle.rows.specs.declared.Turned.{Turned}
 use Rattle.rows.specs.declared.Finished.{Finished}
 use Rattle.near.specs.Job.{HasListed, listTable}
 use Rattle.near.specs.declared.Near.{Near}
-use Rattle.boards.specs.Lent.{noteBytes, backBytes, noteOf, noteInto, backInto, Cleared}
+use Rattle.boards.specs.Lent.{noteBytes, backBytes, noteOf, noteInto, backOfTurn, backOfFinish, backOfList, backInto, Cleared}
 use Rattle.boards.specs.Calls.{StartCall, TurnCall, FinishCall, ListCall, startCallTable, turnCallTable, finishCallTable, listCallTable}
 use Rattle.boards.proofs.LentLaws.{note-same, cleared-none, cleared-note, cleared-back, cleared-back-is}
 use Rattle.boards.proofs.Refusing.{wider, narrower, closed, curve-takes, rows-take}
@@ -75,7 +75,7 @@ turn-short {note = note} {rows} {back = back} long short has =
 
 pub turn-done : {allowance : ℕ} {note note′ rows rows′ back back′ : List ℕ} {job : Turned} → noteBytes ≤ length note → backBytes ≤ length back
     → HasTurned (noteOf note) allowance rows rows′ job → note′ ≡ noteInto (job .note) note
-    → back′ ≡ backInto (record { updates = job .updates; weight = 0; height = 0; count = 0 }) back
+    → back′ ≡ backInto (backOfTurn job) back
     → TurnCall allowance note note′ rows rows′ back back′ (job .number)
 turn-done {note = note} {rows = rows} {back = back} {job = job} long room has e b =
     let asked = turnTable (noteOf note) rows in
@@ -93,7 +93,7 @@ turn-done {note = note} {rows = rows} {back = back} {job = job} long room has e 
 pub turn-job : {allowance : ℕ} {note note′ rows rows′ back back′ : List ℕ} {number : ℕ} → noteBytes ≤ length note → backBytes ≤ length back
     → TurnCall allowance note note′ rows rows′ back back′ number
     → (job : Turned) × HasTurned (noteOf note) allowance rows rows′ job × (number ≡ job .number) × (note′ ≡ noteInto (job .note) note)
-    × (back′ ≡ backInto (record { updates = job .updates; weight = 0; height = 0; count = 0 }) back)
+    × (back′ ≡ backInto (backOfTurn job) back)
 turn-job {note = note} {rows = rows} {back = back} long room call =
     let asked = turnTable (noteOf note) rows in
     let table = turnCallTable note rows back in
@@ -138,7 +138,7 @@ finish-short {note} {rows} {curve} {back = back} {job} long short has =
 
 pub finish-done : {note rows curve curve′ back back′ : List ℕ} {job : Finished} → noteBytes ≤ length note → backBytes ≤ length back
     → HasFinished (noteOf note) rows curve curve′ job
-    → back′ ≡ backInto (record { updates = 0; weight = job .weight; height = job .height; count = 0 }) back
+    → back′ ≡ backInto (backOfFinish job) back
     → FinishCall note rows curve curve′ back back′ (job .number)
 finish-done {note} {rows} {curve} {back = back} {job = job} long room has b =
     let asked = finishTable (noteOf note) rows curve in
@@ -152,7 +152,7 @@ finish-done {note} {rows} {curve} {back = back} {job = job} long room has b =
 pub finish-job : {note rows curve curve′ back back′ : List ℕ} {number : ℕ} → noteBytes ≤ length note → backBytes ≤ length back
     → FinishCall note rows curve curve′ back back′ number
     → (job : Finished) × HasFinished (noteOf note) rows curve curve′ job × (number ≡ job .number)
-    × (back′ ≡ backInto (record { updates = 0; weight = job .weight; height = job .height; count = 0 }) back)
+    × (back′ ≡ backInto (backOfFinish job) back)
 finish-job {note} {rows} {curve} {back = back} {number = number} long room call =
     let asked = finishTable (noteOf note) rows curve in
     let table = finishCallTable note rows curve back in
@@ -190,7 +190,7 @@ list-short {p} {points} {word} {k} {m} {l} {t} {room} {messages = messages} {bac
 
 pub list-done : {p : ℕ} {points word : List ℕ} {k m l t : ℕ} {room room′ messages messages′ back back′ : List ℕ} {job : Near}
     → backBytes ≤ length back → HasListed p points word k m l t room room′ messages messages′ job
-    → back′ ≡ backInto (record { updates = job .updates; weight = job .weight; height = 0; count = job .count }) back
+    → back′ ≡ backInto (backOfList job) back
     → ListCall p points word k m l t room room′ messages messages′ back back′ (job .number)
 list-done {p} {points} {word} {k} {m} {l} {t} {room} {messages = messages} {back = back} {job = job} long has b =
     let asked = listTable p points word k m l t room messages in

@@ -7,7 +7,7 @@ use native.Mathlib.Decide.{ℕ-discrete}
 use Rattle.poly.proofs.TableLaws.{first-determined}
 use Rattle.rows.proofs.Determined.{start-determined, turn-determined, finish-determined}
 use Rattle.near.proofs.Determined.{list-determined}
-use Rattle.boards.specs.Lent.{noteInto, backInto}
+use Rattle.boards.specs.Lent.{noteInto, backOfTurn, backOfFinish, backOfList, backInto}
 use Rattle.boards.specs.Calls.{StartCall, TurnCall, FinishCall, ListCall, startCallTable, turnCallTable, finishCallTable, listCallTable}
 use Rattle.boards.proofs.LentLaws.{cleared-determined}
 
@@ -40,7 +40,7 @@ turn-call-determined {note = note} {rows = rows} {back = back} f g =
       e ∙ ap (λ j. j .number) (one .0) ∙ sym e′,
       n ∙ ap (λ j. noteInto (j .note) note) (one .0) ∙ sym n′,
       one .1,
-      q ∙ ap (λ j. backInto (record { updates = j .updates; weight = 0; height = 0; count = 0 }) back) (one .0) ∙ sym q′,
+      q ∙ ap (λ j. backInto (backOfTurn j) back) (one .0) ∙ sym q′,
     ))
     (λ x.
     let (e, n, r, c) = f .refused x in
@@ -59,7 +59,7 @@ finish-call-determined {note} {rows} {curve} {back = back} {a = a} {b} f g =
     let one = finish-determined has has′ in (
       same,
       one .1,
-      q ∙ ap (λ j. backInto (record { updates = 0; weight = j .weight; height = j .height; count = 0 }) back) (one .0) ∙ sym q′,
+      q ∙ ap (λ j. backInto (backOfFinish j) back) (one .0) ∙ sym q′,
     ))
     (λ n.
     let (r, c) = f .refused n in
@@ -81,7 +81,7 @@ list-call-determined {p} {points} {word} {k} {m} {l} {t} {room} {messages = mess
       e ∙ ap (λ j. j .number) (one .0) ∙ sym e′,
       one .1,
       one .2,
-      q ∙ ap (λ j. backInto (record { updates = j .updates; weight = j .weight; height = 0; count = j .count }) back) (one .0) ∙ sym q′,
+      q ∙ ap (λ j. backInto (backOfList j) back) (one .0) ∙ sym q′,
     ))
     (λ x.
     let (e, r, n, c) = f .refused x in

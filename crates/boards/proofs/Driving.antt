@@ -13,8 +13,7 @@ use Rattle.rows.specs.Demands.{Request, Begun, Driven}
 use Rattle.rows.specs.declared.Started.{Started}
 use Rattle.rows.specs.declared.Turned.{Turned}
 use Rattle.rows.proofs.Demands.{demand-3}
-use Rattle.boards.specs.declared.Back.{Back}
-use Rattle.boards.specs.Lent.{noteBytes, backBytes, noteOf, noteInto, backInto, updatesOf, finishedOf}
+use Rattle.boards.specs.Lent.{noteBytes, backBytes, noteOf, noteInto, backOfTurn, backOfFinish, backInto, updatesOf, finishedOf}
 use Rattle.boards.specs.Calls.{startCallTable, StartCall, DrivenCalls, PauseCalls}
 use Rattle.boards.proofs.LentLaws.{note-kept, note-long, updates-kept, finished-kept}
 use Rattle.boards.proofs.Calling.{turn-job, finish-job}
@@ -27,10 +26,10 @@ module _ {q : Request} where
 
   turn-driven : (note back : List ℕ) {sum made allowance : ℕ} {rows rows′ note′ back′ : List ℕ} {job : Turned} → noteBytes ≤ length note
       → backBytes ≤ length back → Driven q sum rows (noteOf note) made → HasTurned (noteOf note) allowance rows rows′ job
-      → note′ ≡ noteInto (job .note) note → back′ ≡ backInto (record { updates = job .updates; weight = 0; height = 0; count = 0 }) back
+      → note′ ≡ noteInto (job .note) note → back′ ≡ backInto (backOfTurn job) back
       → (noteBytes ≤ length note′) × Driven q (sum + allowance) rows′ (noteOf note′) (made + updatesOf back′)
   turn-driven note back {allowance = allowance} {job = job} long room driven has e b =
-      let made = ap updatesOf b ∙ updates-kept (record { updates = job .updates; weight = 0; height = 0; count = 0 }) back room in
+      let made = ap updatesOf b ∙ updates-kept (backOfTurn job) back room in
       let next = ap noteOf e ∙ note-kept (job .note) note long in
       (rw (e, note-long (job .note) note) long, rw (next, made) (Driven.turned allowance driven has))
 
@@ -63,7 +62,6 @@ module _ {q : Request} where
         paused = pause;
         handed = λ r number curve curve′ back back′ fits room call.
             let (job, has, e, b) = finish-job long room call in
-            let answer : Back = record { updates = 0; weight = job .weight; height = job .height; count = 0 } in
-            let read : finishedOf number back′ ≡ job = ap₂ finishedOf e b ∙ finished-kept (job .number) answer back room in
+            let read : finishedOf number back′ ≡ job = ap₂ finishedOf e b ∙ finished-kept (job .number) (backOfFinish job) back room in
             rw read (pause .curve r curve curve′ job has fits);
       }

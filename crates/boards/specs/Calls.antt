@@ -2,8 +2,7 @@
 --   startCallTable, turnCallTable, finishCallTable, listCallTable    the refusals of each call, in order: its job's, where 9 also says that the
 --                   lent note or back is too short. A turn and a finish first of all need the note that they are to read: 9 without it
 --   StartCall, TurnCall, FinishCall, ListCall    the number by the call's table, and:
---     done          if none of its refusals applies: what the job's own contract says, with the job's struct in the lent bytes; what a job does
---                   not hand back is zero there
+--     done          if no line of it applies: what the job's own contract says, with the job's struct in the lent bytes
 --     refused       if one does: every byte is as it was, but for zeros in back, and in the note of a start, where there is room for them
 --   DrivenCalls     a start that is answered with 0, then any number of turns, each on the bytes that the last call left, with room in back
 --   PauseCalls      what holds at every pause of the calls (demand 3)
@@ -23,7 +22,8 @@ use Rattle.rows.specs.declared.Turned.{Turned}
 use Rattle.rows.specs.declared.Finished.{Finished}
 use Rattle.near.specs.Job.{HasListed}
 use Rattle.near.specs.declared.Near.{Near}
-use Rattle.boards.specs.Lent.{noteBytes, backBytes, noteOf, noteInto, backInto, updatesOf, finishedOf, Cleared}
+use Rattle.boards.specs.Lent.{noteBytes, backBytes, noteOf, noteInto, updatesOf, finishedOf, Cleared}
+use Rattle.boards.specs.Lent.{backOfTurn, backOfFinish, backOfList, backInto}
 
 -- start
 
@@ -53,7 +53,7 @@ pub record TurnCall (allowance : ℕ) (note note′ rows rows′ back back′ : 
   pub entry : ℕ
   pub first : First (turnCallTable note rows back) entry
   pub done : entry ≡ 0 → (job : Turned) × HasTurned (noteOf note) allowance rows rows′ job × (number ≡ job .number)
-      × (note′ ≡ noteInto (job .note) note) × (back′ ≡ backInto (record { updates = job .updates; weight = 0; height = 0; count = 0 }) back)
+      × (note′ ≡ noteInto (job .note) note) × (back′ ≡ backInto (backOfTurn job) back)
   pub refused : (entry ≡ 0 → ⊥) → (number ≡ entry) × (note′ ≡ note) × (rows′ ≡ rows) × Cleared backBytes back back′
 
 -- finish
@@ -73,7 +73,7 @@ finishCallTable note rows curve back =
 pub record FinishCall (note rows curve curve′ back back′ : List ℕ) (number : ℕ) : Type 0 where
   pub first : First (finishCallTable note rows curve back) number
   pub done : number ≡ 0 → (job : Finished) × HasFinished (noteOf note) rows curve curve′ job × (number ≡ job .number)
-      × (back′ ≡ backInto (record { updates = 0; weight = job .weight; height = job .height; count = 0 }) back)
+      × (back′ ≡ backInto (backOfFinish job) back)
   pub refused : (number ≡ 0 → ⊥) → (curve′ ≡ curve) × Cleared backBytes back back′
 
 -- list: its number is that of the entry, unless 13 comes
@@ -89,7 +89,7 @@ pub record ListCall (p : ℕ) (points word : List ℕ) (k m l t : ℕ) (room roo
   pub entry : ℕ
   pub first : First (listCallTable p points word k m l t room messages back) entry
   pub done : entry ≡ 0 → (job : Near) × HasListed p points word k m l t room room′ messages messages′ job × (number ≡ job .number)
-      × (back′ ≡ backInto (record { updates = job .updates; weight = job .weight; height = 0; count = job .count }) back)
+      × (back′ ≡ backInto (backOfList job) back)
   pub refused : (entry ≡ 0 → ⊥) → (number ≡ entry) × (room′ ≡ room) × (messages′ ≡ messages) × Cleared backBytes back back′
 
 -- demand 3

@@ -2,6 +2,7 @@
 --   noteBytes, backBytes    the bytes that each takes
 --   noteOf xs               the note in the first bytes of xs: p, n, k, m, l, r
 --   noteInto note xs        xs with the note in its first bytes
+--   backOfTurn, backOfFinish, backOfList    what each job hands back beside its number and its note; zero for what it does not have
 --   backInto back xs        xs with what is handed back in its first bytes: the updates, low byte first, the weight, the height, the count
 --   updatesOf xs            the updates in the first bytes of xs
 --   finishedOf number xs    what a finish hands back: the number, and the weight and the height in the first bytes of xs
@@ -13,7 +14,9 @@ use lib.ListN.{length, getD}
 use lib.Seq.{sets}
 use Rattle.poly.specs.Lent.{Zeroed}
 use Rattle.rows.specs.declared.Note.{Note}
+use Rattle.rows.specs.declared.Turned.{Turned}
 use Rattle.rows.specs.declared.Finished.{Finished}
+use Rattle.near.specs.declared.Near.{Near}
 use Rattle.boards.specs.declared.Back.{Back}
 
 abbrev pub noteBytes : ℕ
@@ -27,6 +30,15 @@ noteOf xs = record { p = getD xs 0 0; n = getD xs 1 0; k = getD xs 2 0; m = getD
 
 abbrev pub noteInto : Note → List ℕ → List ℕ
 noteInto note xs = sets xs 0 (note .p ∷ note .n ∷ note .k ∷ note .m ∷ note .l ∷ note .r ∷ [])
+
+abbrev pub backOfTurn : Turned → Back
+backOfTurn job = record { updates = job .updates; weight = 0; height = 0; count = 0 }
+
+abbrev pub backOfFinish : Finished → Back
+backOfFinish job = record { updates = 0; weight = job .weight; height = job .height; count = 0 }
+
+abbrev pub backOfList : Near → Back
+backOfList job = record { updates = job .updates; weight = job .weight; height = 0; count = job .count }
 
 abbrev pub backInto : Back → List ℕ → List ℕ
 backInto back xs = sets xs 0 (back .updates % 256 ∷ back .updates / 256 ∷ back .weight ∷ back .height ∷ back .count ∷ [])
