@@ -24,23 +24,6 @@ degree : (c : tie.Else5) → let s = c .before .before .before .before .before .
     BadDegree (length (s .points .now)) (length (s .message .now)) → ⊥
 degree c b = ⊎-elim (λ w. omega arith) (λ w. omega arith) b
 
--- the table from 6 on gives the number
-after-4 : (c : tie.Else5) (n : ℕ) → let s = c .before .before .before .before .before .before .before .before .before .args in
-    let table = encodeTable (s .p) (s .points .now) (s .message .now) (s .word .now) in First (drop 3 table) n → First table n
-after-4 c n f = inr (size (c .before .before .before .before), inr (count (c .before .before), inr (degree c, f)))
-
--- the table from 7 on
-after-6 : (c : tie.Else7) (n : ℕ) → let s =
-    c .before .before .before .before .before .before .before .before .before .before .before .before .before .args in
-    let table = encodeTable (s .p) (s .points .now) (s .message .now) (s .word .now) in First (drop 4 table) n → First table n
-after-6 c n f =
-    after-4 (c .before .before .before .before) n
-    (inr (
-      ⊎-elim (c .before .before .before .too-large .ensures .fails (c .before .before .if6 .left)) (c .before .too-large2 .ensures .fails
-          (c .if7 .left)),
-      f,
-    ))
-
 is-listed-requires : tie.Need-is-listed-requires
 is-listed-requires c κs = search needs
 
@@ -58,6 +41,23 @@ returns-4 c = inr (size (c .before .before .before), inr (count (c .before), inl
 
 returns-5 : tie.Need-returns-5
 returns-5 c = inr (size (c .before .before .before .before), inr (count (c .before .before), inl (inr (c .if5 .taken), refl)))
+
+-- the table from 6 on gives the number
+after-4 : (c : tie.Else5) (n : ℕ) → let s = c .before .before .before .before .before .before .before .before .before .args in
+    let table = encodeTable (s .p) (s .points .now) (s .message .now) (s .word .now) in First (drop 3 table) n → First table n
+after-4 c n f = inr (size (c .before .before .before .before), inr (count (c .before .before), inr (degree c, f)))
+
+-- the table from 7 on
+after-6 : (c : tie.Else7) (n : ℕ) → let s =
+    c .before .before .before .before .before .before .before .before .before .before .before .before .before .args in
+    let table = encodeTable (s .p) (s .points .now) (s .message .now) (s .word .now) in First (drop 4 table) n → First table n
+after-6 c n f =
+    after-4 (c .before .before .before .before) n
+    (inr (
+      ⊎-elim (c .before .before .before .too-large .ensures .fails (c .before .before .if6 .left)) (c .before .too-large2 .ensures .fails
+          (c .if7 .left)),
+      f,
+    ))
 
 too-large-requires : tie.Need-too-large-requires
 too-large-requires c κs = search needs
