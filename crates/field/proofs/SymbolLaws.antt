@@ -46,6 +46,10 @@ is-listed {p} e =
           (omega arith) (omega arith) p t;
     }
 
+-- a remainder by p is a byte
+pub remainder-byte : {p : ℕ} (z : ℕ) → Listed p → z % p < 256
+remainder-byte {p} z l = omega (arith, mod-lt z {m = p} (omega arith))
+
 -- numbers to symbols and back
 module _ (p : ℕ) where
   pub byte-symbol : (n : ℕ) → symbol p n .byte ≡ n % p

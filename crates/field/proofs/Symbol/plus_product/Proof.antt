@@ -1,9 +1,10 @@
 -- `field::Symbol::plus_product` meets its contract.
 use mathlib.Core.Path.{sym}
-use Prim.Native.Nat.{_<_, _+_, _*_}
+use Prim.Native.Nat.{_<_, _*_}
 use native.Mathlib.Omega.{arith}
-use native.Mathlib.Nat.{mod-lt, mul-le-mul}
+use native.Mathlib.Nat.{mul-le-mul}
 use borrow.Author.Needs.{needs}
+use Rattle.field.proofs.SymbolLaws.{remainder-byte}
 use Rattle.field.proofs.OperationLaws.{plus-times-mod}
 use Rattle.field.proofs.Symbol.plus_product.Statement.{statement}
 use Rattle.field.proofs.Symbol.plus_product.Tie as tie
@@ -31,7 +32,7 @@ rem-r : tie.Need-rem-r
 rem-r c = search needs
 
 cast-t11 : tie.Need-cast-t11
-cast-t11 c = let a = c .before .before .before .args in omega (arith, mod-lt (a .self .value + a .x .value * a .y .value) {m = a .p} (search needs))
+cast-t11 c = record { fits = remainder-byte _ (c .before .before .before .pre .0 .size) }
 
 returns : tie.Need-returns
 returns c = let a = c .before .before .before .args in sym (plus-times-mod (a .p) (a .self .value) (a .x .value) (a .y .value))

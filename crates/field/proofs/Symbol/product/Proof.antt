@@ -2,8 +2,9 @@
 use mathlib.Core.Path.{sym}
 use Prim.Native.Nat.{ℕ, _<_, _*_}
 use native.Mathlib.Omega.{arith}
-use native.Mathlib.Nat.{mod-lt, mul-le-mul}
+use native.Mathlib.Nat.{mul-le-mul}
 use borrow.Author.Needs.{needs}
+use Rattle.field.proofs.SymbolLaws.{remainder-byte}
 use Rattle.field.proofs.OperationLaws.{times-mod}
 use Rattle.field.proofs.Symbol.product.Statement.{statement}
 use Rattle.field.proofs.Symbol.product.Tie as tie
@@ -14,17 +15,18 @@ cast-x c = search needs
 cast-x-2 : tie.Need-cast-x-2
 cast-x-2 c = search needs
 
-small : (a b : ℕ) → a < 32 → b < 32 → a * b < 1024
-small a b h k = omega (arith, mul-le-mul {n₁ = a} {m₁ = b} {n₂ = 31} {m₂ = 31} (omega arith) (omega arith))
+-- two bytes have a product of two bytes
+small : (a b : ℕ) → a < 256 → b < 256 → a * b < 65536
+small a b h k = omega (arith, mul-le-mul {n₁ = a} {m₁ = b} {n₂ = 255} {m₂ = 255} (omega arith) (omega arith))
 
 mul-x : tie.Need-mul-x
-mul-x c = let a = c .before .before .args in omega (arith, small (a .self .value) (a .other .value) (search needs) (search needs))
+mul-x c = record { fits = small _ _ (search needs) (search needs) }
 
 rem-y : tie.Need-rem-y
 rem-y c = search needs
 
 cast-t8 : tie.Need-cast-t8
-cast-t8 c = let a = c .before .before .args in omega (arith, mod-lt (a .self .value * a .other .value) {m = a .p} (search needs))
+cast-t8 c = record { fits = remainder-byte _ (c .before .before .pre .size) }
 
 returns : tie.Need-returns
 returns c = let a = c .before .before .args in sym (times-mod (a .p) (a .self .value) (a .other .value))

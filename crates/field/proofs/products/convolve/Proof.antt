@@ -1,11 +1,10 @@
 -- `field::products::convolve` meets its contract: the sum stands for that of the first i products.
 use mathlib.Core.Path.{_≡_, sym, ap, _∙_}
 use Prim.Native.Nat.{_≤_, _*_, _-_}
-use native.Mathlib.Nat.{mod-lt}
 use native.Mathlib.Omega.{arith}
 use Rattle.field.specs.Symbols.{Element, symbol}
 use Rattle.field.specs.Kernels.{convolution}
-use Rattle.field.proofs.SymbolLaws.{byte-symbol}
+use Rattle.field.proofs.SymbolLaws.{remainder-byte, byte-symbol}
 use Rattle.field.proofs.Convolutions.{convolution-none, convolution-more}
 use borrow.Author.Needs.{needs}
 use Rattle.field.proofs.products.convolve.Statement.{statement}
@@ -57,8 +56,7 @@ rem-result : tie.Need-rem-result Inv-loop μ-loop
 rem-result c = search needs
 
 cast-result : tie.Need-cast-result Inv-loop μ-loop
-cast-result c = let s = c .before .before .before .before in let h = mod-lt (c .before .loop .sum) {m = s .args .p} (search needs) in
-    let l = s .pre .size .small in omega arith
+cast-result c = record { fits = remainder-byte _ (c .before .before .before .before .pre .size) }
 
 returns : tie.Need-returns Inv-loop μ-loop
 returns c =
