@@ -1,28 +1,22 @@
 -- `field::subtract` meets its contract. The loop's invariant: the first i symbols of the region are done. m is p less the factor.
-use mathlib.Core.Path.{_≡_, refl, sym, ap, _∙_}
+use mathlib.Core.Path.{_≡_, refl, sym, ap, subst, _∙_}
+use mathlib.Core.List.{List}
 use Prim.Native.Nat.{ℕ, _+_, _-_, _*_, _<_, _≤_}
 use native.Mathlib.Nat.{mul-le-mul}
 use native.Mathlib.Omega.{arith}
 use lib.ListN.{length, getD, length-set}
 use borrow.Author.Needs.{needs}
 use Rattle.field.specs.Kernels.{subtracted}
-use Rattle.field.proofs.KernelLaws.{subtracted-zero, target-below, source-below, subtracted-more}
+use Rattle.field.proofs.KernelLaws.{subtracted-zero, subtracted-more, subtracted-keeps}
 use Rattle.field.proofs.subtract.Statement.{statement}
 use Rattle.field.proofs.subtract.Tie as tie
 
 abbrev Inv-loop : tie.InvT-loop
-Inv-loop rows₀ to from len p g m i₀ rows i = (i ≤ len) × (length rows ≡ length rows₀) × (rows ≡ subtracted p (p - m) to from i rows₀)
+Inv-loop rows₀ to from len p g m i₀ rows i =
+    (i ≤ len) × (m ≤ 31) × (length rows ≡ length rows₀) × (rows ≡ subtracted p (p - m) to from i rows₀)
 
 abbrev μ-loop : tie.MeasureT-loop
 μ-loop rows₀ to from len p g m i₀ rows i = len - i
-
--- the invariant, with the factor in it
-done : (c : tie.At-loop Inv-loop μ-loop) → let a = c .before .before .before .before .args in
-    c .loop .rows ≡ subtracted (a .p) (a .c .value) (a .to) (a .from) (c .loop .i) (a .rows .now)
-done c =
-    let s = c .before .before .before .before in
-    let a = s .args in
-    c .loop .inv .2 ∙ ap (λ (f : ℕ). subtracted (a .p) f (a .to) (a .from) (c .loop .i) (a .rows .now)) (omega (arith, s .pre .factor))
 
 module _ (c : tie.In-loop Inv-loop μ-loop) where
   abbrev s : tie.Start Inv-loop μ-loop
@@ -34,14 +28,21 @@ module _ (c : tie.In-loop Inv-loop μ-loop) where
   abbrev y : ℕ
   y = getD (c .before .loop .rows) (s .args .from + c .before .loop .i) 0
 
+  -- what was a symbol's byte still is
+  kept : (q : ℕ) → getD (s .args .rows .now) q 0 < s .args .p → getD (c .before .loop .rows) q 0 < s .args .p
+  kept q h =
+      subst (λ (ys : List ℕ). getD ys q 0 < s .args .p) (sym (c .before .loop .inv .3))
+      (subtracted-keeps (s .pre .size) _ (s .args .to) (s .args .from) (c .before .loop .i) (s .args .rows .now)
+      (omega (arith, s .pre .target .within)) q h)
+
   x-below : x < s .args .p
-  x-below = target-below (s .pre) (c .before .loop .i) (c .loop-test .taken) (done (c .before))
+  x-below = kept _ (s .pre .target .below (c .before .loop .i) (c .loop-test .taken))
 
   y-below : y < s .args .p
-  y-below = source-below (s .pre) (c .before .loop .i) (c .loop-test .taken) (done (c .before))
+  y-below = kept _ (s .pre .source .below (c .before .loop .i) (c .loop-test .taken))
 
-  product-small : (s .args .p - s .args .c .value) * y ≤ 961
-  product-small = mul-le-mul {n₂ = 31} {m₂ = 31} (omega arith) (omega (arith, y-below))
+  product-small : (m : ℕ) → m ≤ 31 → m * y ≤ 961
+  product-small m h = mul-le-mul {n₂ = 31} {m₂ = 31} h (omega (arith, y-below))
 
 reciprocal-requires : tie.Need-reciprocal-requires Inv-loop μ-loop
 reciprocal-requires c κs = search needs
@@ -53,7 +54,7 @@ cast-m : tie.Need-cast-m Inv-loop μ-loop
 cast-m c = search needs
 
 loop-holds : tie.Need-loop-holds Inv-loop μ-loop
-loop-holds c = (omega arith, refl, sym (subtracted-zero _ _ _ _ _))
+loop-holds c = (omega arith, omega arith, refl, sym (subtracted-zero _ _ _ _ _))
 
 add-z : tie.Need-add-z Inv-loop μ-loop
 add-z c = search needs
@@ -74,17 +75,17 @@ cast-z-2 : tie.Need-cast-z-2 Inv-loop μ-loop
 cast-z-2 c = omega (arith, y-below (c .before .before))
 
 mul-z : tie.Need-mul-z Inv-loop μ-loop
-mul-z c = omega (arith, product-small (c .before .before))
+mul-z c = let n = c .before .before in omega (arith, product-small n _ (n .before .loop .inv .1))
 
 add-z-3 : tie.Need-add-z-3 Inv-loop μ-loop
-add-z-3 c = omega (arith, product-small (c .before .before), x-below (c .before .before))
+add-z-3 c = let n = c .before .before in omega (arith, product-small n _ (n .before .loop .inv .1), x-below n)
 
 reduce-requires : tie.Need-reduce-requires Inv-loop μ-loop
 reduce-requires c κs = let n = c .before .before in
     record {
       size = s n .pre .size;
       reciprocal = n .before .before .before .reciprocal .ensures;
-      low = omega (arith, product-small n, x-below n);
+      low = omega (arith, product-small n _ (n .before .loop .inv .1), x-below n);
     }
 
 add-rows : tie.Need-add-rows Inv-loop μ-loop
@@ -99,6 +100,14 @@ add-i c = search needs
 loop-less : tie.Need-loop-less Inv-loop μ-loop
 loop-less c = search needs
 
+-- the invariant, with the factor in it
+done : (c : tie.At-loop Inv-loop μ-loop) → let a = c .before .before .before .before .args in
+    c .loop .rows ≡ subtracted (a .p) (a .c .value) (a .to) (a .from) (c .loop .i) (a .rows .now)
+done c =
+    let s = c .before .before .before .before in
+    let a = s .args in
+    c .loop .inv .3 ∙ ap (λ (f : ℕ). subtracted (a .p) f (a .to) (a .from) (c .loop .i) (a .rows .now)) (omega (arith, s .pre .factor))
+
 loop-again : tie.Need-loop-again Inv-loop μ-loop
 loop-again c =
     let n = c .before .before .before in
@@ -106,7 +115,8 @@ loop-again c =
     let a = s n .args in
     let e : a .p - (a .p - a .c .value) ≡ a .c .value = omega (arith, s n .pre .factor) in (
       omega arith,
-      simp length-set (l .inv .1),
+      l .inv .1,
+      simp length-set (l .inv .2),
       rw e (subtracted-more (s n .pre) (l .i) (n .loop-test .taken) (done (n .before)) (c .reduce .ensures)),
     )
 

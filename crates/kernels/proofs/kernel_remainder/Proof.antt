@@ -1,17 +1,19 @@
 -- `kernels::kernel_remainder` meets its contract. The loop's invariant: the first i symbols of the region are done.
 use mathlib.Core.Path.{_≡_, refl, sym}
 use Prim.Native.Nat.{ℕ, _+_, _-_, _*_, _<_, _≤_}
-use native.Mathlib.Nat.{mod-lt, mul-le-mul}
+use native.Mathlib.Nat.{mul-le-mul}
 use native.Mathlib.Omega.{arith}
 use lib.ListN.{length, getD, length-set}
 use borrow.Author.Needs.{needs}
 use Rattle.field.specs.Kernels.{subtracted}
+use Rattle.field.proofs.SymbolLaws.{remainder-byte}
 use Rattle.field.proofs.KernelLaws.{subtracted-zero, target-below, source-below, subtracted-more}
 use Rattle.kernels.proofs.kernel_remainder.Statement.{statement}
 use Rattle.kernels.proofs.kernel_remainder.Tie as tie
 
 abbrev Inv-loop : tie.InvT-loop
-Inv-loop rows₀ to from len c p m i₀ rows i = (i ≤ len) × (length rows ≡ length rows₀) × (rows ≡ subtracted p c to from i rows₀)
+Inv-loop rows₀ to from len c p m i₀ rows i =
+    (i ≤ len) × (m ≤ 31) × (length rows ≡ length rows₀) × (rows ≡ subtracted p c to from i rows₀)
 
 abbrev μ-loop : tie.MeasureT-loop
 μ-loop rows₀ to from len c p m i₀ rows i = len - i
@@ -27,13 +29,13 @@ module _ (c : tie.In-loop Inv-loop μ-loop) where
   y = getD (c .before .loop .rows) (s .args .from + c .before .loop .i) 0
 
   x-below : x < s .args .p
-  x-below = target-below (s .pre) (c .before .loop .i) (c .loop-test .taken) (c .before .loop .inv .2)
+  x-below = target-below (s .pre) (c .before .loop .i) (c .loop-test .taken) (c .before .loop .inv .3)
 
   y-below : y < s .args .p
-  y-below = source-below (s .pre) (c .before .loop .i) (c .loop-test .taken) (c .before .loop .inv .2)
+  y-below = source-below (s .pre) (c .before .loop .i) (c .loop-test .taken) (c .before .loop .inv .3)
 
-  product-small : (s .args .p - s .args .c) * y ≤ 961
-  product-small = mul-le-mul {n₂ = 31} {m₂ = 31} (omega arith) (omega (arith, y-below))
+  product-small : (m : ℕ) → m ≤ 31 → m * y ≤ 961
+  product-small m h = mul-le-mul {n₂ = 31} {m₂ = 31} h (omega (arith, y-below))
 
 sub-m : tie.Need-sub-m Inv-loop μ-loop
 sub-m c = search needs
@@ -42,7 +44,7 @@ cast-m : tie.Need-cast-m Inv-loop μ-loop
 cast-m c = search needs
 
 loop-holds : tie.Need-loop-holds Inv-loop μ-loop
-loop-holds c = (omega arith, refl, sym (subtracted-zero _ _ _ _ _))
+loop-holds c = (omega arith, omega arith, refl, sym (subtracted-zero _ _ _ _ _))
 
 add-z : tie.Need-add-z Inv-loop μ-loop
 add-z c = search needs
@@ -63,19 +65,16 @@ cast-z-2 : tie.Need-cast-z-2 Inv-loop μ-loop
 cast-z-2 c = omega (arith, y-below (c .before .before))
 
 mul-z : tie.Need-mul-z Inv-loop μ-loop
-mul-z c = omega (arith, product-small (c .before .before))
+mul-z c = let n = c .before .before in omega (arith, product-small n _ (n .before .loop .inv .1))
 
 add-z-3 : tie.Need-add-z-3 Inv-loop μ-loop
-add-z-3 c = omega (arith, product-small (c .before .before), x-below (c .before .before))
+add-z-3 c = let n = c .before .before in omega (arith, product-small n _ (n .before .loop .inv .1), x-below n)
 
 rem-rows : tie.Need-rem-rows Inv-loop μ-loop
 rem-rows c = search needs
 
 cast-rows : tie.Need-cast-rows Inv-loop μ-loop
-cast-rows c =
-    let n = c .before .before in
-    let a = s n .args in
-    omega (arith, mod-lt (x n + (a .p - a .c) * y n) {m = a .p} (omega arith))
+cast-rows c = record { fits = remainder-byte _ (s (c .before .before) .pre .size) }
 
 add-rows : tie.Need-add-rows Inv-loop μ-loop
 add-rows c = search needs
@@ -93,7 +92,7 @@ loop-again : tie.Need-loop-again Inv-loop μ-loop
 loop-again c =
     let n = c .before .before in
     let l = n .before .loop in
-    (omega arith, simp length-set (l .inv .1), subtracted-more (s n .pre) (l .i) (n .loop-test .taken) (l .inv .2) refl)
+    (omega arith, l .inv .1, simp length-set (l .inv .2), subtracted-more (s n .pre) (l .i) (n .loop-test .taken) (l .inv .3) refl)
 
 same-length : tie.Need-same-length Inv-loop μ-loop
 same-length c = search needs
@@ -101,7 +100,7 @@ same-length c = search needs
 returns : tie.Need-returns Inv-loop μ-loop
 returns c =
     let e : c .before .loop .i ≡ c .before .before .args .len = omega arith in
-    rw e at (c .before .loop .inv .2)
+    rw e at (c .before .loop .inv .3)
 
 pub kernel-remainder-spec : {M : Type 1} → statement M
 kernel-remainder-spec =
