@@ -1,7 +1,7 @@
 // Symbols: the numbers 0 to p-1, one byte each, where p is one of the ten field sizes.
 ghost use mathlib.Core.Path.{_≡_};
 ghost use Prim.Native.Nat.{_+_, _/_, _%_};
-ghost use Rattle.field.specs.Symbols.{listed};
+ghost use Rattle.field.specs.Symbols.{listed, symbols};
 ghost use Rattle.field.specs.Operations.{Operand, Operands, plusBytes, minusBytes, timesBytes, negByte, invByte, Listed};
 ghost use Rattle.field.specs.Kernels.{Subtracts, Scales, Reduces, subtracted, scaled};
 
@@ -27,6 +27,21 @@ impl Symbol {
     pub const ZERO: Symbol = Symbol { value: 0 };
 
     pub const ONE: Symbol = Symbol { value: 1 };
+
+    // A contract can't name a constant: these two say what the constants are in the field of p.
+    pub fn zero(p: u8) -> Symbol
+        requires { ⌜ Listed p ⌝ }
+        ensures { λ r. ⌜ r .value ≡ symbols p .ring .𝟘 .byte ⌝ }
+    {
+        Symbol::ZERO
+    }
+
+    pub fn one(p: u8) -> Symbol
+        requires { ⌜ Listed p ⌝ }
+        ensures { λ r. ⌜ r .value ≡ symbols p .ring .𝟙 .byte ⌝ }
+    {
+        Symbol::ONE
+    }
 
     pub fn sum(self, other: Symbol, p: u8) -> Symbol
         requires { ⌜ Operands p (self .value) (other .value) ⌝ }
