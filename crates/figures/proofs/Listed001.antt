@@ -6,6 +6,7 @@ use native.Mathlib.Decide.{ℕ-discrete}
 use native.Mathlib.Omega.{arith}
 use lib.ListN.{length}
 use lib.Seq.{ext-getD}
+use Rattle.field.specs.Choices.{choose}
 use Rattle.field.specs.Field.{Field}
 use Rattle.field.specs.Symbols.{Element, symbol, symbols, symbolsOf}
 use Rattle.poly.specs.Polynomials.{Seq, value}
@@ -13,7 +14,7 @@ use Rattle.poly.specs.Limits.{workingRoom}
 use Rattle.poly.proofs.Evaluation.{value-more}
 use Rattle.poly.proofs.TableLaws.{first-determined}
 use Rattle.curves.proofs.Least.{weight-unique}
-use Rattle.near.specs.Lists.{Task, one, polynomial, In, agreements, Wanted}
+use Rattle.near.specs.Lists.{Task, polynomial, In, agreements, Wanted}
 use Rattle.near.specs.Job.{taskOf, listTable, refusal, RuleUpdates, Answers, HasListed}
 use Rattle.near.specs.declared.Near.{Near}
 use Rattle.near.proofs.Determined.{updates-unique, near-same}
@@ -29,19 +30,19 @@ module _ {F : Field} (task : Task F) (g : Seq (F .ring)) where
   abbrev Agrees : ℕ → Type 0
   Agrees s = value (F .ring) (task .point s) (task .k) g ≡ task .received s
 
-  one-most : {A : Type 0} (d : Dec A) → one d ≤ 1
-  one-most (yes h) = omega arith
-  one-most (no h) = omega arith
+  choose-most : {A : Type 0} (d : Dec A) → choose d 1 0 ≤ 1
+  choose-most (yes h) = omega arith
+  choose-most (no h) = omega arith
 
   agreements-most : (n : ℕ) → agreements task n g ≤ n
   agreements-most zero = rw (agreements-zero task g) zero-le
-  agreements-most (suc n) = let a = agreements-most n in let b = one-most (agrees? task g n) in omega (arith, agreements-suc task g n)
+  agreements-most (suc n) = let a = agreements-most n in let b = choose-most (agrees? task g n) in omega (arith, agreements-suc task g n)
 
   agreements-all : (n : ℕ) → n ≤ agreements task n g → (s : ℕ) → s < n → Agrees s
   agreements-all zero le s h = absurd (omega arith)
   agreements-all (suc n) le s h = go (agrees? task g n) (rw (agreements-suc task g n) at le) (ℕ-discrete s n) (λ a k. agreements-all n a s k)
     where
-      go : (d : Dec (Agrees n)) → suc n ≤ agreements task n g + one d → Dec (s ≡ n) → (n ≤ agreements task n g → s < n → Agrees s) → Agrees s
+      go : (d : Dec (Agrees n)) → suc n ≤ agreements task n g + choose d 1 0 → Dec (s ≡ n) → (n ≤ agreements task n g → s < n → Agrees s) → Agrees s
       go (yes e) le (yes q) more = rw q e
       go (yes e) le (no q) more = more (omega arith) (omega arith)
       go (no e) le q more = let m = agreements-most n in absurd (omega arith)

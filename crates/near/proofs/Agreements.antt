@@ -5,6 +5,7 @@ use Prim.Native.Nat.{ℕ, zero, suc, _+_, _-_, _*_, _≤_, _<_}
 use native.Mathlib.Nat.{mul-zero, mul-add, mul-le-mul-left}
 use native.Mathlib.Omega.{arith}
 use Rattle.field.specs.Field.{Ring, RingLaws, Field, FieldLaws}
+use Rattle.field.specs.Choices.{choose}
 use Rattle.poly.specs.Polynomials.{Seq, zeroS, Series, Below, value}
 use Rattle.poly.proofs.Series.{series}
 use Rattle.poly.proofs.Bounds.{below-same}
@@ -18,7 +19,7 @@ use Rattle.curves.proofs.Leads.{under-mono}
 use Rattle.curves.proofs.MovedCurves.{below-along, along}
 use Rattle.curves.proofs.Multiplicities.{multiplicity-vanish}
 use Rattle.curves.proofs.Weights.{below-graph}
-use Rattle.near.specs.Lists.{Task, one, agreements, Wanted}
+use Rattle.near.specs.Lists.{Task, agreements, Wanted}
 
 -- at one place: the order of Q (x, g (x)), whose degree is below W
 module _ {R : Ring} (L : RingLaws R) {u W : ℕ} {Q : Curve R} (fin : Finite R Q) (light : Under R u W 0 Q) (N : ℕ) {g : Seq R}
@@ -41,14 +42,14 @@ module _ {F : Field} (task : Task F) (g : Seq (F .ring)) where
   abbrev pub agrees? : (s : ℕ) → Dec (value (F .ring) (task .point s) (task .k) g ≡ task .received s)
   agrees? s = F .same? (value (F .ring) (task .point s) (task .k) g) (task .received s)
 
-  pub agreements-suc : (n : ℕ) → agreements task (suc n) g ≡ agreements task n g + one (agrees? n)
+  pub agreements-suc : (n : ℕ) → agreements task (suc n) g ≡ agreements task n g + choose (agrees? n) 1 0
   unfolding agreements
   agreements-suc n = refl
 
-  agreements-sum : (m n : ℕ) → sumBelow n (λ s. m * one (agrees? s)) ≡ m * agreements task n g
-  agreements-sum m zero = sumBelow-zero (λ s. m * one (agrees? s)) ∙ rw agreements-zero (sym (mul-zero m))
+  agreements-sum : (m n : ℕ) → sumBelow n (λ s. m * choose (agrees? s) 1 0) ≡ m * agreements task n g
+  agreements-sum m zero = sumBelow-zero (λ s. m * choose (agrees? s) 1 0) ∙ rw agreements-zero (sym (mul-zero m))
   agreements-sum m (suc n) =
-      rw (sumBelow-suc n (λ s. m * one (agrees? s)), agreements-sum m n, agreements-suc n) (sym (mul-add m (agreements task n g) (one (agrees? n))))
+      rw (sumBelow-suc n (λ s. m * choose (agrees? s) 1 0), agreements-sum m n, agreements-suc n) (sym (mul-add m (agreements task n g) (choose (agrees? n) 1 0)))
 
 module _ {F : Field} (Φ : FieldLaws F) (task : Task F) (points : Distinct (F .ring) (task .n) (task .point)) where
   abbrev R : Ring
@@ -60,10 +61,10 @@ module _ {F : Field} (Φ : FieldLaws F) (task : Task F) (points : Distinct (F .r
   -- a multiplicity for each place
   module _ {W : ℕ} {Q : Curve R} (fin : Finite R Q) (light : Under R (task .k - 1) W 0 Q) (N : ℕ) (ms : ℕ → ℕ)
       (mult : (s : ℕ) → s < task .n → Multiplicity R (ms s) (fin .0) N (task .point s) (task .received s) Q) where
-    pub nobody-missing : (g : Seq R) → Below R (task .k) g → W ≤ sumBelow (task .n) (λ s. ms s * one (agrees? task g s))
+    pub nobody-missing : (g : Seq R) → Below R (task .k) g → W ≤ sumBelow (task .n) (λ s. ms s * choose (agrees? task g s) 1 0)
         → value (Series R) g N Q ≡ zeroS R
     nobody-missing g short le =
-        orders-zero L (task .n) W (task .point) (λ s. ms s * one (agrees? task g s)) (value (Series R) g N Q)
+        orders-zero L (task .n) W (task .point) (λ s. ms s * choose (agrees? task g s) 1 0) (value (Series R) g N Q)
         (distinct-apart Φ (task .n) (task .point) points)
         (below-graph L (task .k - 1) W N Q g wide light) le (λ s l. order s l (agrees? task g s))
       where
@@ -71,7 +72,7 @@ module _ {F : Field} (Φ : FieldLaws F) (task : Task F) (points : Distinct (F .r
         wide i l = short i (omega arith)
 
         order : (s : ℕ) → s < task .n → (d : Dec (value R (task .point s) (task .k) g ≡ task .received s))
-            → Ord R (ms s * one d) (shift R (task .point s) W (value (Series R) g N Q))
+            → Ord R (ms s * choose d 1 0) (shift R (task .point s) W (value (Series R) g N Q))
         order s l (yes e) i k =
             graph-order L fin light N wide (ms s) (task .point s) (task .received s) (mult s l)
             (value-more L (task .point s) (task .k) (suc (task .k - 1)) g short (omega arith) ∙ e) i (omega arith)

@@ -3,7 +3,6 @@
 --   Task F                  what is asked: the word received at n points, messages of k symbols, t agreements; and the numbers of symbols
 --   polynomial task x       the polynomial whose coefficients have the numbers x, constant first
 --   Spelt p k x             x is k numbers below p
---   one test                1 where the test holds, else 0
 --   agreements task n g     at how many of the first n places g takes at the point the value received
 --   Wanted task g           g has degree below k and at least t agreements
 --   In x list               x is on the list
@@ -16,6 +15,7 @@ use mathlib.Core.List.{List, [], _∷_, List·Memᴰ}
 use Prim.Native.Nat.{ℕ, zero, suc, _+_, _≤_, _<_}
 use lib.ListN.{length, getD}
 use Rattle.field.specs.Field.{Field}
+use Rattle.field.specs.Choices.{choose}
 use Rattle.poly.specs.Polynomials.{Seq, Below, value}
 
 pub record Task (F : Field) : Type 0 where
@@ -43,17 +43,13 @@ abbrev pub Ascending : List (List ℕ) → Type 0
 Ascending [] = Unit
 Ascending (x ∷ list) = ((y : List ℕ) → In y list → Before x y) × Ascending list
 
-abbrev pub one : {A : Type 0} → Dec A → ℕ
-one (yes h) = 1
-one (no h) = 0
-
 module _ {F : Field} (task : Task F) where
   abbrev pub polynomial : List ℕ → Seq (F .ring)
   polynomial x = λ i. task .element (getD x i 0)
 
   unfoldable pub agreements : ℕ → Seq (F .ring) → ℕ
   agreements zero g = 0
-  agreements (suc n) g = agreements n g + one (F .same? (value (F .ring) (task .point n) (task .k) g) (task .received n))
+  agreements (suc n) g = agreements n g + choose (F .same? (value (F .ring) (task .point n) (task .k) g) (task .received n)) 1 0
 
   pub record Wanted (g : Seq (F .ring)) : Type 0 where
     pub degree : Below (F .ring) (task .k) g

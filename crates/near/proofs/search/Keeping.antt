@@ -13,18 +13,10 @@ use Rattle.field.proofs.Choices.{choose-yes, choose-no}
 use Rattle.poly.specs.Polynomials.{value}
 use Rattle.poly.specs.Encode.{valueAt}
 use Rattle.poly.specs.Buffers.{Coefficients}
-use Rattle.near.specs.Lists.{Task, Spelt, one, polynomial, agreements}
+use Rattle.near.specs.Lists.{Task, Spelt, polynomial, agreements}
 use Rattle.near.specs.Work.{Received, taskFor, kept, Room, Wrote}
 use Rattle.near.specs.declared.search.Plan.{Plan}
 use Rattle.near.proofs.Agreements.{agrees?, agreements-suc}
-
-one-yes : {A : Type 0} (d : Dec A) → A → one d ≡ 1
-one-yes (yes h) a = refl
-one-yes (no h) a = absurd (h a)
-
-one-no : {A : Type 0} (d : Dec A) → (A → ⊥) → one d ≡ 0
-one-no (yes h) a = absurd (a h)
-one-no (no h) a = refl
 
 module _ {plan : Plan} {points word message : List ℕ} (received : Received plan points word) (spelt : Spelt (plan .shape .p) (plan .k) message)
     {s : ℕ} (inside : s < length points) where
@@ -52,13 +44,13 @@ module _ {plan : Plan} {points word message : List ℕ} (received : Received pla
   agrees {v} e d =
       agreements-suc task (polynomial task message) s
       ∙ ap (λ (n : ℕ). count s + n)
-      (one-yes (agrees? task (polynomial task message) s) (sym value-is ∙ same-byte (plan .shape .p) (sym e ∙ d ∙ sym received-is)))
+      (choose-yes (agrees? task (polynomial task message) s) 1 0 (sym value-is ∙ same-byte (plan .shape .p) (sym e ∙ d ∙ sym received-is)))
 
   pub differs : {v : ℕ} → v ≡ valueAt (plan .shape .p) message (getD points s 0) .byte → (v ≡ getD word s 0 → ⊥) → count (suc s) ≡ count s
   differs {v} e d =
       agreements-suc task (polynomial task message) s
       ∙ ap (λ (n : ℕ). count s + n)
-      (one-no (agrees? task (polynomial task message) s) (λ h. d (e ∙ ap (λ (x : Element (plan .shape .p)). x .byte) (value-is ∙ h) ∙ received-is)))
+      (choose-no (agrees? task (polynomial task message) s) 1 0 (λ h. d (e ∙ ap (λ (x : Element (plan .shape .p)). x .byte) (value-is ∙ h) ∙ received-is)))
       ∙ add-zero (count s)
 
 -- what is kept of the message

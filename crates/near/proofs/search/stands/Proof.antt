@@ -40,8 +40,11 @@ loop-less c = search needs
 loop-again : tie.Need-loop-again Inv-loop μ-loop
 loop-again c =
     let l = c .before .before .before .before .before in
-    let s = l .before .before in
-    (search needs, below-more _ (l .loop .j) (l .loop .inv .1) (zero-is (s .args .shape .p) (sym (c .before .before .symbol-at .ensures) ∙ c .if2 .left)))
+    let s = l .before .before in (
+      search needs,
+      below-more _ (l .loop .j) (l .loop .inv .1)
+          (zero-is (s .args .shape .p) (sym (c .before .before .symbol-at .ensures) ∙ c .if2 .left)),
+    )
 
 returns-2 : tie.Need-returns-2 Inv-loop μ-loop
 returns-2 c =
