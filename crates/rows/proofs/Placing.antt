@@ -16,11 +16,11 @@ use native.Mathlib.Omega.{arith}
 use lib.Dec.{leb}
 use lib.ListN.{length, getD}
 use borrow.Author.Tests.{le-leb, lt-leb}
-use Rattle.field.specs.Symbols.{symbol, symbols}
+use Rattle.field.specs.Symbols.{symbol, select, symbols}
 use Rattle.field.proofs.SymbolLaws.{symbol-own, byte-below, zero-byte}
 use Rattle.poly.specs.Limits.{heightMost, widthMost, curveMost, rowsMost}
 use Rattle.curves.specs.Curves.{Curve, Under}
-use Rattle.rows.specs.Bytes.{slot, curveBytes, rowsBytes, place, within, rowsOf, Holds}
+use Rattle.rows.specs.Bytes.{slot, curveBytes, rowsBytes, place, rowsOf, Holds}
 use Rattle.rows.specs.Work.{Fine, Bytes, LightRow}
 use Rattle.rows.specs.declared.Shape.{Shape}
 
@@ -118,12 +118,12 @@ module _ (S : Shape) (xs : List ℕ) where
   rowsOf-boxed i j e (inl h) = rw (lt-leb i (S .l) h)
   rowsOf-boxed i j e (inr (inl h)) = rw (lt-leb j (S .l) h) (go (leb i (S .l)))
     where
-      go : (b : Bool) → symbol (S .p) (within b 0) ≡ symbol (S .p) 0
+      go : (b : Bool) → symbol (S .p) (select b 0 0) ≡ symbol (S .p) 0
       go true = refl
       go false = refl
   rowsOf-boxed i j e (inr (inr h)) = rw (lt-leb e (S .width) h) (go (leb i (S .l)) (leb j (S .l)))
     where
-      go : (a b : Bool) → symbol (S .p) (within a (within b 0)) ≡ symbol (S .p) 0
+      go : (a b : Bool) → symbol (S .p) (select a (select b 0 0) 0) ≡ symbol (S .p) 0
       go true true = refl
       go true false = refl
       go false b = refl

@@ -4,16 +4,15 @@
 --   shape p n k m l     the numbers by which bytes are read: p, u = k - 1, W and l
 --   slot S              the bytes of a slot; curveBytes S, rowsBytes S  of a curve, of the rows
 --   place S i j e       where the coefficient of x^e y^j of row i stands
---   rowsOf S xs         the rows that the bytes xs are; zero outside of the slots: within test n  n where the test holds, else 0
+--   rowsOf S xs         the rows that the bytes xs are; zero outside of the slots
 --   Holds S xs rows     the bytes xs are these rows, each coefficient below p
 --   HoldsCurve S xs Q   the bytes xs are the curve Q
 use mathlib.Core.Path.{_≡_}
-use mathlib.Core.Bool.{Bool, true, false}
 use mathlib.Core.List.{List}
 use Prim.Native.Nat.{ℕ, suc, _+_, _-_, _*_, _≤_}
 use lib.Dec.{leb}
 use lib.ListN.{getD}
-use Rattle.field.specs.Symbols.{symbol, symbols}
+use Rattle.field.specs.Symbols.{symbol, select, symbols}
 use Rattle.curves.specs.Curves.{Curve}
 use Rattle.rows.specs.declared.Shape.{Shape}
 
@@ -35,12 +34,8 @@ rowsBytes S = suc (S .l) * curveBytes S
 abbrev pub place : Shape → ℕ → ℕ → ℕ → ℕ
 place S i j e = i * curveBytes S + j * slot S + e
 
-abbrev pub within : Bool → ℕ → ℕ
-within true n = n
-within false n = 0
-
 unfoldable pub rowsOf : (S : Shape) → List ℕ → ℕ → Curve (symbols (S .p) .ring)
-rowsOf S xs i j e = symbol (S .p) (within (leb i (S .l)) (within (leb j (S .l)) (within (leb e (S .width)) (getD xs (place S i j e) 0))))
+rowsOf S xs i j e = symbol (S .p) (select (leb i (S .l)) (select (leb j (S .l)) (select (leb e (S .width)) (getD xs (place S i j e) 0) 0) 0) 0)
 
 abbrev pub Holds : (S : Shape) → List ℕ → (ℕ → Curve (symbols (S .p) .ring)) → Type 0
 Holds S xs rows = (i j e : ℕ) → i ≤ S .l → j ≤ S .l → e ≤ S .width → getD xs (place S i j e) 0 ≡ rows i j e .byte

@@ -25,7 +25,7 @@ use lib.ListN.{length, getD}
 use lib.Seq.{sets}
 use Rattle.field.specs.Field.{Ring}
 use Rattle.field.specs.Lists.{tabulate}
-use Rattle.field.specs.Symbols.{Element, symbols}
+use Rattle.field.specs.Symbols.{Element, select, symbols}
 use Rattle.field.specs.Operations.{minusBytes, timesBytes, Listed}
 use Rattle.field.specs.Kernels.{Region}
 use Rattle.poly.specs.Limits.{fieldMost, widthMost, heightMost}
@@ -33,7 +33,7 @@ use Rattle.poly.specs.Lent.{Untouched}
 use Rattle.curves.specs.Curves.{Curve, Height, Zero, Under, Lead, LeadsAt}
 use Rattle.curves.specs.Turns.{ratio, update}
 use Rattle.curves.specs.Entry.{Sound}
-use Rattle.rows.specs.Bytes.{slot, rowsBytes, curveBytes, within, rowsOf, place}
+use Rattle.rows.specs.Bytes.{slot, rowsBytes, curveBytes, rowsOf, place}
 use Rattle.rows.specs.Jobs.{BadNote, shapeOf, Goes}
 use Rattle.rows.specs.declared.Shape.{Shape}
 use Rattle.rows.specs.declared.Note.{Note}
@@ -109,7 +109,7 @@ updatedRows S xs r w s v = update (symbols (S .p)) r s (w - S .u * s) (v - S .u 
 
 -- the coefficient of x^e in x^d times the x-polynomial at `at`
 abbrev pub delayedByte : List ℕ → ℕ → ℕ → ℕ → ℕ
-delayedByte xs at d e = within (leb d e) (getD xs (at + (e - d)) 0)
+delayedByte xs at d e = select (leb d e) (getD xs (at + (e - d)) 0) 0
 
 -- a slot at a and one at b, and a factor
 pub record Slots (S : Shape) (c a b : ℕ) (xs : List ℕ) : Type 0 where

@@ -21,7 +21,7 @@ use Rattle.curves.specs.Curves.{Curve, Lead}
 use Rattle.curves.specs.Turns.{cross}
 use Rattle.curves.proofs.Crossing.{cross-at}
 use Rattle.curves.proofs.Updates.{Swapped}
-use Rattle.rows.specs.Bytes.{slot, curveBytes, rowsBytes, place, within, rowsOf, Holds}
+use Rattle.rows.specs.Bytes.{slot, curveBytes, rowsBytes, place, rowsOf, Holds}
 use Rattle.rows.specs.Work.{Crosses, leadsRatio, updatedRows, Exchanges, Exchanged}
 use Rattle.rows.specs.declared.Shape.{Shape}
 use Rattle.rows.proofs.Placing.{block-end, row-end, slot-inside, place-apart, place-below, rowsOf-at, holds-own}

@@ -10,7 +10,7 @@ use lib.Dec.{leb}
 use lib.ListN.{getD}
 use borrow.Author.Tests.{le-leb, lt-leb}
 use Rattle.field.specs.Field.{Ring, Field, FieldLaws}
-use Rattle.field.specs.Symbols.{Element, symbol, same-byte, symbols}
+use Rattle.field.specs.Symbols.{Element, symbol, same-byte, select, symbols}
 use Rattle.field.specs.Operations.{minusBytes, timesBytes, Listed}
 use Rattle.field.specs.Kernels.{Region}
 use Rattle.field.proofs.OperationLaws.{symbol-timesBytes}
@@ -20,7 +20,7 @@ use Rattle.poly.proofs.Monomials.{delay, delay-at, delay-null}
 use Rattle.curves.specs.Curves.{Curve, Zero}
 use Rattle.curves.specs.Turns.{cross}
 use Rattle.curves.proofs.Crossing.{cross-at, cross-null}
-use Rattle.rows.specs.Bytes.{slot, curveBytes, within, rowsOf}
+use Rattle.rows.specs.Bytes.{slot, curveBytes, rowsOf}
 use Rattle.rows.specs.Work.{Bytes, Crosses, leadsRatio, updatedRows, delayedByte, SlotVanishes}
 use Rattle.rows.specs.declared.Shape.{Shape}
 use Rattle.rows.proofs.Placing.{slot-end, row-end, rowsOf-at, rowsOf-boxed}
@@ -37,7 +37,7 @@ slot-region {S} b g h =
 pub delayed-below : {p at len : ℕ} {xs : List ℕ} → Listed p → Region p at len xs → (d e : ℕ) → e < len → delayedByte xs at d e < p
 delayed-below {p} {at} {len} {xs} l region d e h = go (leb d e)
   where
-    go : (b : Bool) → within b (getD xs (at + (e - d)) 0) < p
+    go : (b : Bool) → select b (getD xs (at + (e - d)) 0) 0 < p
     go true = region .below (e - d) (omega arith)
     go false = omega (arith, l .large)
 
