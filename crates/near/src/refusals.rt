@@ -21,16 +21,10 @@ pub fn refuse_list(
     if number != 0 {
         return number;
     }
-    if t < 1 {
+    if t < 1 || points.len() < t as usize {
         return 8;
     }
-    if points.len() < t as usize {
-        return 8;
-    }
-    if room.len() < WORKING_ROOM {
-        return 9;
-    }
-    if messages.len() < l as usize * k as usize {
+    if room.len() < WORKING_ROOM || messages.len() < l as usize * k as usize {
         return 9;
     }
     0

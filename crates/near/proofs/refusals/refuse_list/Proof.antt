@@ -7,6 +7,7 @@ use native.Mathlib.Nat.{mul-le-mul}
 use native.Mathlib.Omega.{arith}
 use lib.ListN.{drop}
 use borrow.Author.Needs.{needs}
+use borrow.Author.Tests.{ltb-true, ltb-false}
 use Rattle.poly.specs.Table.{Refusal, First}
 use Rattle.poly.proofs.TableLaws.{first-stops, first-goes}
 use Rattle.near.specs.Job.{listTable}
@@ -28,7 +29,7 @@ past-7 : (c : tie.Else1) (n : ℕ) → First (drop 7 (table (s1 c))) n → First
 past-7 c n f = first-goes 7 (table (s1 c)) n (search needs) (rw (c .if1 .left) at (c .before .refuse-request .ensures)) f
 
 past-8 : (c : tie.Else3) (n : ℕ) → First (drop 8 (table (s3 c))) n → First (table (s3 c)) n
-past-8 c n f = past-7 (c .before .before) n (inr (⊎-elim (λ w. omega arith) (λ w. omega arith), f))
+past-8 c n f = past-7 (c .before .before) n (inr (⊎-elim (λ w. omega arith) (λ w. omega (arith, ltb-false)), f))
 
 refuse-request-requires : tie.Need-refuse-request-requires
 refuse-request-requires c κs = search needs
@@ -39,13 +40,7 @@ returns c =
     (c .before .refuse-request .ensures) (c .if1 .taken)
 
 returns-2 : tie.Need-returns-2
-returns-2 c = past-7 (c .before) 8 (inl (inl (c .if2 .taken), refl))
-
-returns-3 : tie.Need-returns-3
-returns-3 c = past-7 (c .before .before) 8 (inl (inr (c .if3 .taken), refl))
-
-returns-4 : tie.Need-returns-4
-returns-4 c = past-8 (c .before) 9 (inl (inl (c .if4 .taken), refl))
+returns-2 c = past-7 (c .before) 8 (inl (⊎-elim (λ w. inl (w .taken)) (λ w. inr (ltb-true _ _ (w .1 .taken))) (c .if2 .came), refl))
 
 mul-if5 : tie.Need-mul-if5
 mul-if5 c =
@@ -54,11 +49,11 @@ mul-if5 c =
     let h = mul-le-mul {n₁ = s .args .l} {m₁ = s .args .k} {n₂ = 255} {m₂ = 255} (omega arith) (omega arith) in
     omega arith
 
-returns-5 : tie.Need-returns-5
-returns-5 c = past-8 (c .before .before) 9 (inl (inr (c .if5 .taken), refl))
+returns-3 : tie.Need-returns-3
+returns-3 c = past-8 (c .before) 9 (inl (⊎-elim (λ w. inl (w .taken)) (λ w. inr (ltb-true _ _ (w .1 .taken))) (c .if4 .came), refl))
 
-returns-6 : tie.Need-returns-6
-returns-6 c = past-8 (c .before .before) 0 (inr (⊎-elim (λ w. omega arith) (λ w. omega arith), refl))
+returns-4 : tie.Need-returns-4
+returns-4 c = past-8 (c .before .before) 0 (inr (⊎-elim (λ w. omega arith) (λ w. omega (arith, ltb-false)), refl))
 
 pub refuse-list-spec : {M : Type 1} → statement M
 refuse-list-spec =
@@ -67,8 +62,6 @@ refuse-list-spec =
     refuse-request-requires
     returns
     returns-2
-    returns-3
-    returns-4
     mul-if5
-    returns-5
-    returns-6)
+    returns-3
+    returns-4)
