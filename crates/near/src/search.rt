@@ -198,11 +198,12 @@ fn level(
         (now (curve .entry)) (now (curve .exit)) (now (chosen .entry)) (now (chosen .exit)) (now (messages .entry)) (now (messages .exit)) r ⌝ }
 {
     let shape = plan.shape;
+    let p = shape.p;
     let i = plan.k - left;
     let low = lowest(curve, shape, i);
     let mut found = count;
     let mut c = 0;
-    while c < shape.p {
+    while c < p {
         if fits(curve, shape, i, low, c) {
             found = open(curve, chosen, points, word, messages, plan, left, c, found);
         }

@@ -74,7 +74,7 @@ returns-2 : tie.Need-returns-2
 returns-2 c =
     let z = c .before .before .before .before in
     let i = z .before .before .before .before .before in
-    list-unvouched (first (i .before .before .before)) (i .interpolate .ensures) (z .clear .ensures) (c .if2 .taken)
+    list-unvouched (first (i .before .before .before)) (i .interpolate .ensures) (z .clear .ensures) (omega (arith, c .if2 .taken))
 
 slice-aggregate-run : tie.Need-slice-aggregate-run
 slice-aggregate-run c = search needs

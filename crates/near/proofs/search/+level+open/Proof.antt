@@ -62,12 +62,12 @@ open-calls t = (
 )
 
 abbrev level-Inv-loop : level-lts.InvT-loop
-level-Inv-loop curve₀ chosen₀ points word messages₀ plan left count shape i low found₀ c₀ curve chosen messages found c =
+level-Inv-loop curve₀ chosen₀ points word messages₀ plan left count shape p i low found₀ c₀ curve chosen messages found c =
     Going plan points word curve₀ chosen₀ messages₀ left count curve chosen messages found c
     × (low ≡ lowest (symbols (plan .shape .p)) (suc (plan .shape .l)) (suc (plan .shape .width)) (plan .k - left) (curveOf (plan .shape) curve₀))
 
 abbrev level-μ-loop : level-lts.MeasureT-loop
-level-μ-loop curve₀ chosen₀ points word messages₀ plan left count shape i low found₀ c₀ curve chosen messages found c =
+level-μ-loop curve₀ chosen₀ points word messages₀ plan left count shape p i low found₀ c₀ curve chosen messages found c =
     plan .shape .p - c
 
 level-sub-i : (t : ℕ) → level-lts.Need-sub-i (level-calls t) (level-at t) level.Post level-Inv-loop level-μ-loop
@@ -83,18 +83,18 @@ level-loop-holds t c =
 
 level-fits-requires : (t : ℕ) → level-lts.Need-fits-requires (level-calls t) (level-at t) level.Post level-Inv-loop level-μ-loop
 level-fits-requires t c κs =
-    let l = c .before .before .before in
+    let l = c .before .before in
     let s = l .before .before .before .before .before .before .before .before .before .before in
     let g = going-searches (s .pre .1 .0) (l .loop .inv .0) in
-    record { laid = g .laid; next = next-below g; small = c .before .if1 .taken }
+    record { laid = g .laid; next = next-below g; small = omega (arith, c .before .loop-test .taken) }
 
 level-open-requires : (t : ℕ) → level-lts.Need-open-requires (level-calls t) (level-at t) level.Post level-Inv-loop level-μ-loop
 level-open-requires t c κs =
-    let l = c .before .before .before .before .before .before .before .before in
+    let l = c .before .before .before .before .before .before .before in
     let s = l .before .before .before .before .before .before .before .before .before .before in
     let g = l .loop .inv .0 in
-    let h = c .before .before .before .before .before .before .if1 .taken in
-    let e = fitting (s .pre .1 .0) g (l .loop .inv .1) (c .before .before .before .before .fits2 .ensures) (c .before .before .before .if2 .taken) in
+    let h = c .before .before .before .before .before .before .loop-test .taken in
+    let e = fitting (s .pre .1 .0) g (l .loop .inv .1) (c .before .before .before .before .fits2 .ensures) (c .before .before .before .if1 .taken) in
     (omega (arith, s .pre .0), (going-searches (s .pre .1 .0) g, (h, opens (s .pre .1 .0) g h e (s .pre .1 .1))))
 
 level-add-c : (t : ℕ) → level-lts.Need-add-c (level-calls t) (level-at t) level.Post level-Inv-loop level-μ-loop
@@ -105,10 +105,10 @@ level-loop-less t c = search needs
 
 level-loop-again : (t : ℕ) → level-lts.Need-loop-again (level-calls t) (level-at t) level.Post level-Inv-loop level-μ-loop
 level-loop-again t c =
-    let l = c .before .before .before .before .before in
+    let l = c .before .before .before .before in
     let s = l .before .before .before .before .before .before .before .before .before .before in
     let g = l .loop .inv .0 in
-    let h = c .before .before .before .if1 .taken in
+    let h = c .before .before .before .loop-test .taken in
     let fit = c .before .fits2 .ensures in
     ⊎-elim
     (λ w. (
@@ -117,23 +117,23 @@ level-loop-again t c =
       l .loop .inv .1,
     ))
     (λ w. (rw (w .1, w .2, w .3, w .4) (passed (s .pre .1 .0) g h (failing (s .pre .1 .0) g (l .loop .inv .1) fit (w .0 .left))), l .loop .inv .1))
-    (c .if2 .came)
+    (c .if1 .came)
 
 level-same-length : (t : ℕ) → level-lts.Need-same-length (level-calls t) (level-at t) level.Post level-Inv-loop level-μ-loop
 level-same-length t c =
-    ap length (c .before .before .loop .inv .0 .leaves .same)
+    ap length (c .before .loop .inv .0 .leaves .same)
 
 level-same-length-2 : (t : ℕ) → level-lts.Need-same-length-2 (level-calls t) (level-at t) level.Post level-Inv-loop level-μ-loop
-level-same-length-2 t c = c .before .before .loop .inv .0 .long
+level-same-length-2 t c = c .before .loop .inv .0 .long
 
 level-same-length-3 : (t : ℕ) → level-lts.Need-same-length-3 (level-calls t) (level-at t) level.Post level-Inv-loop level-μ-loop
 level-same-length-3 t c =
-    let l = c .before .before in
+    let l = c .before in
     going-messages (l .before .before .before .before .before .before .before .before .before .before .pre .1 .0) (l .loop .inv .0)
 
 level-returns : (t : ℕ) → level-lts.Need-returns (level-calls t) (level-at t) level.Post level-Inv-loop level-μ-loop
 level-returns t c =
-    let l = c .before .before in
+    let l = c .before in
     let s = l .before .before .before .before .before .before .before .before .before .before in
     let g = l .loop .inv .0 in
     let e : l .loop .c ≡ s .args .plan .shape .p = omega (arith, g .upto) in
