@@ -49,7 +49,8 @@ module _ {F : Field} (task : Task F) (g : Seq (F .ring)) where
   agreements-sum : (m n : ℕ) → sumBelow n (λ s. m * choose (agrees? s) 1 0) ≡ m * agreements task n g
   agreements-sum m zero = sumBelow-zero (λ s. m * choose (agrees? s) 1 0) ∙ rw agreements-zero (sym (mul-zero m))
   agreements-sum m (suc n) =
-      rw (sumBelow-suc n (λ s. m * choose (agrees? s) 1 0), agreements-sum m n, agreements-suc n) (sym (mul-add m (agreements task n g) (choose (agrees? n) 1 0)))
+      rw (sumBelow-suc n (λ s. m * choose (agrees? s) 1 0), agreements-sum m n, agreements-suc n)
+      (sym (mul-add m (agreements task n g) (choose (agrees? n) 1 0)))
 
 module _ {F : Field} (Φ : FieldLaws F) (task : Task F) (points : Distinct (F .ring) (task .n) (task .point)) where
   abbrev R : Ring

@@ -50,7 +50,8 @@ module _ {plan : Plan} {points word message : List ℕ} (received : Received pla
   differs {v} e d =
       agreements-suc task (polynomial task message) s
       ∙ ap (λ (n : ℕ). count s + n)
-      (choose-no (agrees? task (polynomial task message) s) 1 0 (λ h. d (e ∙ ap (λ (x : Element (plan .shape .p)). x .byte) (value-is ∙ h) ∙ received-is)))
+      (choose-no (agrees? task (polynomial task message) s) 1 0
+      (λ h. d (e ∙ ap (λ (x : Element (plan .shape .p)). x .byte) (value-is ∙ h) ∙ received-is)))
       ∙ add-zero (count s)
 
 -- what is kept of the message
