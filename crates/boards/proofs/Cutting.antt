@@ -1,14 +1,14 @@
 -- However the work is cut into calls: two turns one after the other are one turn with both allowances, and two ways of cutting with the same
--- sum leave the same note and rows.
+-- sum, or that both come to the end, leave the same note and rows.
 use mathlib.Core.Path.{_≡_, refl, sym, ap, ap₂, subst, _∙_}
 use mathlib.Core.List.{List}
-use Prim.Native.Nat.{ℕ, _+_, _<_, _≤_}
+use Prim.Native.Nat.{ℕ, suc, _+_, _<_, _≤_}
 use lib.ListN.{length, getD}
 use Rattle.rows.specs.Bytes.{rowsBytes}
 use Rattle.rows.specs.Demands.{Request, shapeFor}
 use Rattle.rows.specs.declared.Turned.{Turned}
 use Rattle.rows.proofs.Turning.{turned-then}
-use Rattle.rows.proofs.Cutting.{driven-alike}
+use Rattle.rows.proofs.Cutting.{driven-alike, driven-ends}
 use Rattle.boards.specs.declared.Back.{Back}
 use Rattle.boards.specs.Lent.{noteBytes, backBytes, noteOf, noteInto, backInto, updatesOf}
 use Rattle.boards.specs.Calls.{TurnCall, DrivenCalls}
@@ -43,3 +43,8 @@ pub calls-alike : {q : Request} {allowed total total′ : ℕ} {rows rows′ not
     → DrivenCalls q allowed rows note total → DrivenCalls q allowed rows′ note′ total′
     → (noteOf note ≡ noteOf note′) × (total ≡ total′) × ((i : ℕ) → i < rowsBytes (shapeFor q) → getD rows i 0 ≡ getD rows′ i 0)
 calls-alike h d e = driven-alike h (calls-driven d .1) (calls-driven e .1)
+
+pub calls-end : {q : Request} {allowed other total total′ : ℕ} {rows rows′ note note′ : List ℕ} → DrivenCalls q allowed rows note total
+    → DrivenCalls q other rows′ note′ total′ → noteOf note .r ≡ suc (q .l) → noteOf note′ .r ≡ suc (q .l)
+    → (noteOf note ≡ noteOf note′) × (total ≡ total′) × ((i : ℕ) → i < rowsBytes (shapeFor q) → getD rows i 0 ≡ getD rows′ i 0)
+calls-end d e = driven-ends (calls-driven d .1) (calls-driven e .1)

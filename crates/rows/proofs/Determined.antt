@@ -72,14 +72,11 @@ turned-same {a} {b} n m u =
     ap (λ (x : ℕ). record { number = x; note = a .note; updates = a .updates }) n
     ∙ ap₂ (λ (x : Note) (y : ℕ). record { number = b .number; note = x; updates = y }) m u
 
-module _ {note : Note} {allowance : ℕ} {before after also : List ℕ} {a b : Turned} (f : Goes note allowance before after a)
-    (g : Goes note allowance before also b) where
-  outcome-same : f .outcome ≡ g .outcome
-  outcome-same = rule-determined (f .turn) (g .turn)
-
+-- where the rule leaves the same, so does the turn, whatever its allowance and the bytes that it was given
+module _ {note : Note} {allowance other : ℕ} {before start after also : List ℕ} {a b : Turned} (f : Goes note allowance before after a)
+    (g : Goes note other start also b) (e : f .outcome ≡ g .outcome) where
   pub goes-same : a ≡ b
   goes-same =
-      let e = outcome-same in
       turned-same
       (f .number ∙ ap (λ (o : Outcome (symbols (note .p))). o .number) e ∙ sym (g .number))
       (f .next ∙ ap (λ (o : Outcome (symbols (note .p))). atRow note (o .row)) e ∙ sym (g .next))
@@ -89,7 +86,7 @@ module _ {note : Note} {allowance : ℕ} {before after also : List ℕ} {a b : T
   goes-bytes {q} k =
       let p = in-rows (shapeOf note) k in
       rw (p .is) (f .rows (p .row) (p .power) (p .degree) (p .inside) (p .low) (p .short)
-      ∙ ap (λ (o : Outcome (symbols (note .p))). o .rows (p .row) (p .power) (p .degree) .byte) outcome-same
+      ∙ ap (λ (o : Outcome (symbols (note .p))). o .rows (p .row) (p .power) (p .degree) .byte) e
       ∙ sym (g .rows (p .row) (p .power) (p .degree) (p .inside) (p .low) (p .short)))
 
 -- two outcomes of a turn for the same note, allowance and rows are the same
@@ -106,13 +103,16 @@ module _ {note : Note} {allowance : ℕ} {before : List ℕ} where
           let x = f .refused n in
           let y = g .refused (λ e. n (same ∙ e)) in
           (turned-same (x .0 ∙ same ∙ sym (y .0)) (x .1 ∙ sym (y .1)) (x .2 ∙ sym (y .2)), x .3 ∙ sym (y .3))
-      go (yes e) = (goes-same x y, untouched-unique (rowsBytes (shapeOf note)) (f .rest) (g .rest) (λ q k. goes-bytes x y k))
+      go (yes e) = (goes-same x y left, untouched-unique (rowsBytes (shapeOf note)) (f .rest) (g .rest) (λ q k. goes-bytes x y left k))
         where
           x : Goes note allowance before after a
           x = f .goes e
 
           y : Goes note allowance before also b
           y = g .goes (sym same ∙ e)
+
+          left : x .outcome ≡ y .outcome
+          left = rule-determined (x .turn) (y .turn)
 
   -- so are two outcomes of a turn in place
   pub in-place-determined : {after also : List ℕ} {m k : Made} {o p : Note} → HasTurned note allowance before after (withNote m o)
