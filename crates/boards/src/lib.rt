@@ -65,15 +65,7 @@ fn clear_back(bytes: &mut [u8])
     if bytes.len() < BACK_BYTES {
         return;
     }
-    write_back(
-        bytes,
-        Back {
-            updates: 0,
-            weight: 0,
-            height: 0,
-            count: 0,
-        },
-    );
+    poly::clear(bytes, BACK_BYTES);
 }
 
 #[no_mangle]

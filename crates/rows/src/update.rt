@@ -31,7 +31,7 @@ fn delayed(rows: &[u8], at: usize, d: usize, e: usize) -> u8
     ensures { λ r. ⌜ r ≡ delayedByte (now (rows .entry)) at d e ⌝ }
 {
     if e < d {
-        return 0;
+        return Symbol::ZERO.value;
     }
     rows[at + (e - d)]
 }
