@@ -14,15 +14,15 @@ use Rattle.near.specs.Lists.{agreements}
 use Rattle.near.specs.Search.{curveAt, slice, least, each, some?, level, found}
 
 -- by the coefficients of its x-polynomials
-abbrev curve : List (List ℕ) → Curve (symbols 7 .ring)
-curve slots = λ j e. symbol 7 (getD (getD slots j []) e 0)
+abbrev ofSlots : List (List ℕ) → Curve (symbols 7 .ring)
+ofSlots slots = λ j e. symbol 7 (getD (getD slots j []) e 0)
 
-one-message : found (taskOf 7 (1 ∷ 2 ∷ 3 ∷ []) (1 ∷ 2 ∷ 3 ∷ []) 2 2) 2 2 (curve ((0 ∷ 6 ∷ []) ∷ (1 ∷ []) ∷ [])) ≡ (0 ∷ 1 ∷ []) ∷ []
+one-message : found (taskOf 7 (1 ∷ 2 ∷ 3 ∷ []) (1 ∷ 2 ∷ 3 ∷ []) 2 2) 2 2 (ofSlots ((0 ∷ 6 ∷ []) ∷ (1 ∷ []) ∷ [])) ≡ (0 ∷ 1 ∷ []) ∷ []
 unfolding symbol sumOf productOf sameSymbol zeroS oneS addS mulS consS constS value mono agreements curveAt slice least each some? level ℕ-discrete
     decLe
 one-message = refl
 
-two-messages : found (taskOf 7 (1 ∷ 2 ∷ 3 ∷ 4 ∷ []) (2 ∷ 2 ∷ 3 ∷ 4 ∷ []) 2 2) 3 3 (curve ((0 ∷ 2 ∷ []) ∷ (5 ∷ 6 ∷ []) ∷ (1 ∷ []) ∷ []))
+two-messages : found (taskOf 7 (1 ∷ 2 ∷ 3 ∷ 4 ∷ []) (2 ∷ 2 ∷ 3 ∷ 4 ∷ []) 2 2) 3 3 (ofSlots ((0 ∷ 2 ∷ []) ∷ (5 ∷ 6 ∷ []) ∷ (1 ∷ []) ∷ []))
     ≡ (0 ∷ 1 ∷ []) ∷ (2 ∷ 0 ∷ []) ∷ []
 unfolding symbol sumOf productOf sameSymbol zeroS oneS addS mulS consS constS value mono agreements curveAt slice least each some? level ℕ-discrete
     decLe

@@ -1,4 +1,4 @@
--- The search for the near messages, symbol by symbol, on a curve Q of fewer than N powers of y and of weight below W. Rules: section 12.
+-- The search for the near messages, symbol by symbol, on a curve Q with no power from y^N on and of weight below W. Rules: section 12.
 --   curveAt N s Q       Q at y = s
 --   prefixed g i        g + x^i y
 --   Fits N g i Q c      c fits after the i symbols that form g: it is a root, at x = 0, of Q at y = g + x^i y divided by its highest power

@@ -1,4 +1,4 @@
--- What becomes of lent bytes that a job need not write. Rules: section 15.
+-- What becomes of lent bytes beside what a job hands over in them. Rules: sections 1 and 16.
 --   Untouched size xs ys    from the byte `size` on ys is as xs, and as long
 --   Zeroed size xs ys       ys is xs with its first `size` bytes zero
 use mathlib.Core.Path.{_≡_}
