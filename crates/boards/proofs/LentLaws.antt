@@ -7,7 +7,7 @@ use native.Mathlib.Omega.{arith}
 use lib.ListN.{length, getD, drop, replicate}
 use lib.Seq.{set-getD, length-sets, sets-eq}
 use Rattle.poly.specs.Lent.{Zeroed}
-use Rattle.poly.proofs.BufferLaws.{untouched-none, untouched-unique}
+use Rattle.poly.proofs.BufferLaws.{untouched-none, zeroed-unique}
 use Rattle.rows.specs.Jobs.{noNote}
 use Rattle.rows.specs.declared.Note.{Note}
 use Rattle.boards.specs.declared.Back.{Back}
@@ -66,9 +66,6 @@ zeroed-front : (size : ℕ) (xs : List ℕ) → size ≤ length xs → Zeroed si
 zeroed-front zero xs h = record { zeros = λ q g. absurd (omega arith); rest = untouched-none zero xs }
 zeroed-front (suc n) [] h = absurd (omega arith)
 zeroed-front (suc n) (x ∷ xs) h = zeroed-cons (zeroed-front n xs (omega arith))
-
-zeroed-unique : {size : ℕ} {xs ys zs : List ℕ} → Zeroed size xs ys → Zeroed size xs zs → ys ≡ zs
-zeroed-unique {size} a b = untouched-unique size (a .rest) (b .rest) (λ q h. a .zeros q h ∙ sym (b .zeros q h))
 
 abbrev nothing : Back
 nothing = record { updates = 0; weight = 0; height = 0; count = 0 }

@@ -9,10 +9,9 @@ use lib.ListN.{length, getD}
 use lib.Seq.{getD-take}
 use Rattle.field.specs.Symbols.{symbols}
 use Rattle.poly.specs.Buffers.{Places}
-use Rattle.poly.specs.Limits.{workingRoom}
 use Rattle.poly.proofs.TableLaws.{first-determined}
 use Rattle.poly.proofs.Interpolating.{places-only}
-use Rattle.poly.proofs.BufferLaws.{untouched-unique}
+use Rattle.poly.proofs.BufferLaws.{untouched-unique, zeroed-unique}
 use Rattle.curves.specs.Turns.{Outcome}
 use Rattle.curves.proofs.Determined.{end-determined}
 use Rattle.curves.proofs.Least.{weight-unique}
@@ -80,7 +79,7 @@ module _ {p : ℕ} {points word : List ℕ} {k m l t : ℕ} {room messages : Lis
               weight = weight-unique (a .smallest) (b .smallest)
 
               room-same : cleared ≡ zeros
-              room-same = untouched-unique workingRoom (a .zeroed .rest) (b .zeroed .rest) (λ q h. a .zeroed .zeros q h ∙ sym (b .zeroed .zeros q h))
+              room-same = zeroed-unique (a .zeroed) (b .zeroed)
 
               two : Dec (a .smallest .weight < m * t) → (x ≡ y) × (cleared ≡ zeros) × (after ≡ also)
               two (yes h) = let (i, j) = lists-determined places weight (a .lists h) (b .lists (rw weight at h)) in (i, room-same, j)

@@ -16,11 +16,10 @@ use Rattle.poly.specs.Limits.{allowanceMost}
 use Rattle.poly.specs.Polynomials.{locator}
 use Rattle.poly.specs.Table.{First, NotListed, BadCount, BadDegree, BadHeights}
 use Rattle.poly.specs.Limits.{workingRoom}
-use Rattle.poly.specs.Lent.{Untouched}
 use Rattle.poly.specs.Lent.{Zeroed}
 use Rattle.poly.proofs.TableLaws.{first-determined, first-passed, passed-first}
 use Rattle.poly.proofs.Interpolating.{places-distinct}
-use Rattle.poly.proofs.BufferLaws.{untouched-then}
+use Rattle.poly.proofs.BufferLaws.{zeroed-after}
 use Rattle.curves.specs.Curves.{Curve, Under}
 use Rattle.curves.specs.Start.{startRow}
 use Rattle.curves.proofs.FinishedTurns.{end-alike}
@@ -242,10 +241,6 @@ module _ {p : ℕ} {points word : List ℕ} {k m l t : ℕ} {room cleared messag
               written = ran .written;
               rest = ran .rest;
             }
-
--- the bytes were worked in, and then cleared
-zeroed-after : {size : ℕ} {before used cleared : List ℕ} → Untouched size before used → Zeroed size used cleared → Zeroed size before cleared
-zeroed-after u z = record { zeros = z .zeros; rest = untouched-then u (z .rest) }
 
 -- the three ways in which the job ends
 module _ {p : ℕ} {points word : List ℕ} {k m l t : ℕ} {room messages : List ℕ} where

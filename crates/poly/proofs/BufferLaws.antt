@@ -15,7 +15,7 @@ use Rattle.field.proofs.SymbolLaws.{symbol-byte, zero-byte, byte-below}
 use Rattle.field.proofs.OperationLaws.{symbol-timesBytes}
 use Rattle.poly.specs.Polynomials.{Seq, tail, Below, value}
 use Rattle.poly.specs.Buffers.{AllBelow, Factors, Kept}
-use Rattle.poly.specs.Lent.{Untouched}
+use Rattle.poly.specs.Lent.{Untouched, Zeroed}
 
 module _ (p : ℕ) (xs : List ℕ) where
   -- the bytes of xs are the coefficients of f
@@ -66,6 +66,13 @@ untouched-unique size {before} {after} {also} a b low = ext-getD 0 after also (a
     go : (q : ℕ) → Dec (q < size) → getD after q 0 ≡ getD also q 0
     go q (yes h) = low q h
     go q (no h) = a .same q (omega arith) ∙ sym (b .same q (omega arith))
+
+-- bytes that were worked in and then cleared, and that cleared bytes are fixed
+pub zeroed-after : {size : ℕ} {xs ys zs : List ℕ} → Untouched size xs ys → Zeroed size ys zs → Zeroed size xs zs
+zeroed-after u z = record { zeros = z .zeros; rest = untouched-then u (z .rest) }
+
+pub zeroed-unique : {size : ℕ} {xs ys zs : List ℕ} → Zeroed size xs ys → Zeroed size xs zs → ys ≡ zs
+zeroed-unique {size} a b = untouched-unique size (a .rest) (b .rest) (λ q h. a .zeros q h ∙ sym (b .zeros q h))
 
 -- a part of a region
 pub region-part : {p at len : ℕ} (by : ℕ) {short : ℕ} {xs : List ℕ} → by + short ≤ len → Region p at len xs → Region p (at + by) short xs
