@@ -28,15 +28,14 @@ impl Symbol {
 
     pub const ONE: Symbol = Symbol { value: 1 };
 
-    // A contract can't name a constant: these two say what the constants are in the field of p.
-    pub fn zero(p: u8) -> Symbol
-        requires { ⌜ Listed p ⌝ }
+    // A contract can't name a constant: these two, which nothing calls, say what the constants are in the field of p.
+    fn zero(p: u8) -> Symbol
         ensures { λ r. ⌜ r .value ≡ symbols p .ring .𝟘 .byte ⌝ }
     {
         Symbol::ZERO
     }
 
-    pub fn one(p: u8) -> Symbol
+    fn one(p: u8) -> Symbol
         requires { ⌜ Listed p ⌝ }
         ensures { λ r. ⌜ r .value ≡ symbols p .ring .𝟙 .byte ⌝ }
     {
