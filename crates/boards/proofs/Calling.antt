@@ -9,19 +9,19 @@ use native.Mathlib.Omega.{arith}
 use lib.ListN.{length, take, drop}
 use borrow.Author.Needs.{needs}
 use Rattle.poly.specs.Table.{First}
-use Rattle.poly.proofs.TableLaws.{first-passed, first-then}
+use Rattle.poly.proofs.TableLaws.{first-passed, first-then, wider, narrower, closed}
 use Rattle.poly.proofs.BufferLaws.{untouched-none}
 use Rattle.rows.specs.Bytes.{shape, curveBytes, rowsBytes}
 use Rattle.rows.specs.Jobs.{HasStarted, HasTurned, HasFinished, startTable, turnTable, finishTable, shapeOf}
 use Rattle.rows.specs.declared.Started.{Started}
 use Rattle.rows.specs.declared.Turned.{Turned}
 use Rattle.rows.specs.declared.Finished.{Finished}
+use Rattle.rows.proofs.Placing.{curve-some, rows-some}
 use Rattle.near.specs.Job.{HasListed, listTable}
 use Rattle.near.specs.declared.Near.{Near}
 use Rattle.boards.specs.Lent.{noteBytes, backBytes, noteOf, noteInto, backOfTurn, backOfFinish, backOfList, backInto, Cleared}
 use Rattle.boards.specs.Calls.{StartCall, TurnCall, FinishCall, ListCall, startCallTable, turnCallTable, finishCallTable, listCallTable}
 use Rattle.boards.proofs.LentLaws.{note-same, cleared-none, cleared-note, cleared-back, cleared-back-is}
-use Rattle.boards.proofs.Refusing.{wider, narrower, closed, curve-takes, rows-take}
 
 -- start
 
@@ -31,7 +31,7 @@ start-short {p} {points} {word} {k} {m} {l} {rows} {note = note} {job} short has
     let asked = startTable p points word k m l [] in
     let table = startCallTable p points word k m l rows note in
     let first =
-    first-then (take 7 table) (drop 7 asked) (drop 7 table) (job .number) (closed (rows-take (shape p (length points) k m l)) short) (has .first) in
+    first-then (take 7 table) (drop 7 asked) (drop 7 table) (job .number) (closed (rows-some (shape p (length points) k m l)) short) (has .first) in
     record {
       first = first;
       done = λ z. absurd (first-passed table (search needs) first z .1 .1 .1 .1 .1 .1 .1 .0 (inr short));
@@ -64,7 +64,7 @@ turn-short {note = note} {rows} {back = back} long short has =
     let table = turnCallTable note rows back in
     let first : First table (has .entry) = inr (
       λ h. omega arith,
-      first-then (take 1 asked) (drop 1 asked) (drop 2 table) (has .entry) (closed (rows-take (shapeOf (noteOf note))) short) (has .first),
+      first-then (take 1 asked) (drop 1 asked) (drop 2 table) (has .entry) (closed (rows-some (shapeOf (noteOf note))) short) (has .first),
     ) in
     record {
       entry = has .entry;
@@ -128,7 +128,7 @@ finish-short {note} {rows} {curve} {back = back} {job} long short has =
     let table = finishCallTable note rows curve back in
     let first : First table (job .number) = inr (
       λ h. omega arith,
-      first-then (take 1 asked) (drop 1 asked) (drop 2 table) (job .number) (closed (inr (curve-takes (shapeOf (noteOf note)))) short) (has .first),
+      first-then (take 1 asked) (drop 1 asked) (drop 2 table) (job .number) (closed (inr (curve-some (shapeOf (noteOf note)))) short) (has .first),
     ) in
     record {
       first = first;

@@ -1,5 +1,4 @@
 pub mod LentLaws
-pub mod Refusing
 pub mod Calling
 pub mod Determined
 pub mod Driving

@@ -1,6 +1,6 @@
 -- A table fixes the number that it gives; and what is known where a refusal does not apply.
 use mathlib.Core.Path.{_≡_, refl, sym, subst, _∙_}
-use mathlib.Core.Logic.{inl, inr}
+use mathlib.Core.Logic.{_⊎_, inl, inr, ⊎-elim}
 use mathlib.Core.Bool.{Bool, true, false, true≢false}
 use mathlib.Core.List.{List, [], _∷_, _++_}
 use Prim.Native.Nat.{ℕ, zero, suc, _<_, _≤_}
@@ -59,6 +59,21 @@ pub first-then : (table xs ys : List Refusal) (number : ℕ) → (First xs numbe
 first-then [] xs ys number follows f = follows f
 first-then (x ∷ rest) xs ys number follows (inl h) = inl h
 first-then (x ∷ rest) xs ys number follows (inr (not, f)) = inr (not, first-then rest xs ys number follows f)
+
+-- a line that applies to B too, where B does not hold
+pub wider : {A B E R : Type 0} → (B → ⊥) → (A × E) ⊎ ((A → ⊥) × R) → ((A ⊎ B) × E) ⊎ ((A ⊎ B → ⊥) × R)
+wider none (inl (here, e)) = inl (inl here, e)
+wider none (inr (not, f)) = inr (⊎-elim not none, f)
+
+pub narrower : {A B E R : Type 0} → (B → ⊥) → ((A ⊎ B) × E) ⊎ ((A ⊎ B → ⊥) × R) → (A × E) ⊎ ((A → ⊥) × R)
+narrower none (inl (inl here, e)) = inl (here, e)
+narrower none (inl (inr here, e)) = absurd (none here)
+narrower none (inr (not, f)) = inr (λ here. not (inl here), f)
+
+-- and where B holds, and the other line applies
+pub closed : {A B C E R S : Type 0} → A → B → (A × E) ⊎ ((A → ⊥) × R) → ((C ⊎ B) × E) ⊎ ((C ⊎ B → ⊥) × S)
+closed none here (inl (also, e)) = inl (inr here, e)
+closed none here (inr (not, f)) = absurd (not none)
 
 -- the two answers of a test
 pub decided-true : {P : Type 0} → P → Decided true P

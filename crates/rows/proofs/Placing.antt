@@ -1,6 +1,6 @@
 -- Where a coefficient stands among the bytes of the rows, that each byte is one coefficient's, and the rows that bytes are.
 --   slot-end, row-end    slot j ends within its curve, row i within the rows; rows-apart, place-apart  rows do not overlap
---   curve-small, rows-small, lift-inside   bounds of an accepted request
+--   curve-some, rows-some  a curve and the rows take bytes; curve-small, rows-small, lift-inside   bounds of an accepted request
 --   in-curve, in-rows    the coefficient that a byte is
 --   rowsOf-at, -byte     a coefficient and its byte; rowsOf-boxed  there is none outside; rowsOf-null  it is zero where its byte is
 --   holds-bytes, -own    bytes that hold rows are below p, and those below p hold their own
@@ -46,6 +46,13 @@ module _ (S : Shape) where
       let a = row-end g in
       let b = slot-inside h k in
       omega arith
+
+  -- no bytes are too few
+  pub curve-some : 0 < curveBytes S
+  curve-some = omega (arith, slot-inside {j = 0} {e = 0} (omega arith) (omega arith))
+
+  pub rows-some : 0 < rowsBytes S
+  rows-some = omega (arith, place-inside {i = 0} {j = 0} {e = 0} (omega arith) (omega arith) (omega arith))
 
   -- a byte of another row is outside row r
   pub place-apart : {i r j e : ℕ} → (i ≡ r → ⊥) → j ≤ S .l → e ≤ S .width
