@@ -72,13 +72,13 @@ module _ {d : Departure} {points word : List ℕ} {t : ℕ} (sent : Agrees d poi
   pub heard-sent : {m l : ℕ} {room room′ : List ℕ} {back : Heard} → HasHeard points word m l t room room′ back → Hears d back
   heard-sent {m} {l} {room} {room′} {back} h = go (ℕ-discrete (h .entry) 0)
     where
-      refused-with : (number : ℕ) → (number ≡ 15 → ⊥) → back ≡ Refused number → Hears d back
-      refused-with number n e = subst (Hears d) (sym e) (unheard number n)
+      refused-with : (number : ℕ) → (number ≡ 0 → ⊥) → (number ≡ 15 → ⊥) → back ≡ Refused number → Hears d back
+      refused-with number some other e = subst (Hears d) (sym e) (unheard number some other)
 
       go : Dec (h .entry ≡ 0) → Hears d back
       go (no n) =
           let most = first-most (hearTable points word m l t room) (search needs) (h .first) in
-          refused-with (h .entry) (λ e. omega arith) (h .refused n .0)
+          refused-with (h .entry) n (λ e. omega arith) (h .refused n .0)
       go (yes z) = answered (h .answers z)
         where
           answered : AnswersBoard points word m l t room room′ back → Hears d back
@@ -86,7 +86,7 @@ module _ {d : Departure} {points word : List ℕ} {t : ℕ} (sent : Agrees d poi
             where
               two : Dec (a .smallest .weight < m * t) → Hears d back
               two (yes k) = let (list, exactly, said) = a .says k in heard-on (on-list list exactly) said
-              two (no k) = refused-with 13 (λ e. omega arith) (a .unvouched (omega arith))
+              two (no k) = refused-with 13 (λ e. omega arith) (λ e. omega arith) (a .unvouched (omega arith))
 
 -- where a word was encoded and then disturbed, each place that was not disturbed agrees
 module _ {p : ℕ} {points message before sent : List ℕ} (encoded : Encoded p points message before sent 0) (word : List ℕ) (t : ℕ) where

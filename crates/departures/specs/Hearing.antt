@@ -7,7 +7,7 @@
 --   HasHeard             what the job hands back and leaves in the working room
 --   Agrees d points word t    the departure is in range and agrees with the received word in t places or more
 --   disturbed n xs ys    in how many of the first n places two words differ
---   Hears d back         what may be heard of a departure that was sent: itself, several, or a number other than 15; never none, and never
+--   Hears d back         what may be heard of a departure that was sent: itself, several, or a number other than 0 and 15; never none, and never
 --                        another departure
 use mathlib.Core.Path.{_≡_}
 use mathlib.Core.Logic.{_⊎_}
@@ -72,4 +72,4 @@ disturbed (suc n) xs ys = disturbed n xs ys + choose (ℕ-discrete (getD xs n 0)
 pub data Hears (d : Departure) : Heard → Type 0 where
   itself : Hears d (One d)
   among : Hears d Several
-  unheard : (number : ℕ) → (number ≡ 15 → ⊥) → Hears d (Refused number)
+  unheard : (number : ℕ) → (number ≡ 0 → ⊥) → (number ≡ 15 → ⊥) → Hears d (Refused number)
