@@ -1,0 +1,2 @@
+pub mod Disturbing
+pub mod Voyage
