@@ -21,7 +21,7 @@ use Rattle.near.specs.Job.{HasListed, listTable}
 use Rattle.near.specs.declared.Near.{Near}
 use Rattle.boards.specs.Lent.{noteBytes, backBytes, noteOf, noteInto, backOfTurn, backOfFinish, backOfList, backInto, Cleared}
 use Rattle.boards.specs.Calls.{StartCall, TurnCall, FinishCall, ListCall, startCallTable, turnCallTable, finishCallTable, listCallTable}
-use Rattle.boards.proofs.LentLaws.{note-same, cleared-none, cleared-note, cleared-back, cleared-back-is}
+use Rattle.boards.proofs.LentLaws.{note-same, cleared-none, cleared-note, cleared-back, cleared-determined}
 
 -- start
 
@@ -112,7 +112,7 @@ turn-job {note = note} {rows = rows} {back = back} long room call =
       },
       number-is,
       note-is ∙ sym (note-same note),
-      cleared-back-is room c,
+      cleared-determined c (cleared-back room),
     ))
 
 -- finish
@@ -169,7 +169,7 @@ finish-job {note} {rows} {curve} {back = back} {number = number} long room call 
         refused = λ m. (refl, refl, curve-is);
       },
       refl,
-      cleared-back-is room c,
+      cleared-determined c (cleared-back room),
     ))
 
 -- list

@@ -67,25 +67,21 @@ zeroed-front zero xs h = record { zeros = λ q g. absurd (omega arith); rest = u
 zeroed-front (suc n) [] h = absurd (omega arith)
 zeroed-front (suc n) (x ∷ xs) h = zeroed-cons (zeroed-front n xs (omega arith))
 
-abbrev nothing : Back
-nothing = record { updates = 0; weight = 0; height = 0; count = 0 }
-
-zeros-back : (xs : List ℕ) → backBytes ≤ length xs → Zeroed backBytes xs (backInto nothing xs)
-zeros-back xs h = rw (back-front nothing xs h) (zeroed-front backBytes xs h)
-
 -- bytes are cleared by zeros, or where they are too few by nothing
 pub cleared-none : {size : ℕ} {xs : List ℕ} → length xs < size → Cleared size xs xs
 cleared-none h = record { short = λ g. refl; zeroed = λ g. absurd (omega arith) }
 
+cleared-zeros : (size : ℕ) {xs : List ℕ} → size ≤ length xs → Cleared size xs (replicate size 0 ++ drop size xs)
+cleared-zeros size {xs} h = record { short = λ g. absurd (omega arith); zeroed = λ g. zeroed-front size xs h }
+
 pub cleared-note : {xs : List ℕ} → noteBytes ≤ length xs → Cleared noteBytes xs (noteInto noNote xs)
-cleared-note {xs} h =
-    record { short = λ g. absurd (omega arith); zeroed = λ g. rw (note-front noNote xs h) (zeroed-front noteBytes xs h) }
+cleared-note {xs} h = rw (note-front noNote xs h) (cleared-zeros noteBytes h)
+
+abbrev nothing : Back
+nothing = record { updates = 0; weight = 0; height = 0; count = 0 }
 
 pub cleared-back : {xs : List ℕ} → backBytes ≤ length xs → Cleared backBytes xs (backInto nothing xs)
-cleared-back {xs} h = record { short = λ g. absurd (omega arith); zeroed = λ g. zeros-back xs h }
-
-pub cleared-back-is : {xs ys : List ℕ} → backBytes ≤ length xs → Cleared backBytes xs ys → ys ≡ backInto nothing xs
-cleared-back-is {xs} h c = zeroed-unique (c .zeroed h) (zeros-back xs h)
+cleared-back {xs} h = rw (back-front nothing xs h) (cleared-zeros backBytes h)
 
 pub cleared-determined : {size : ℕ} {xs ys zs : List ℕ} → Cleared size xs ys → Cleared size xs zs → ys ≡ zs
 cleared-determined {size} {xs} {ys} {zs} a b = go (decLt (length xs) size)

@@ -58,14 +58,14 @@ fn write_back(bytes: &mut [u8], back: Back)
     bytes[4] = back.count;
 }
 
-// Five zeros where there is room for them: nothing of an earlier call is left to be taken for this one's.
-fn clear_back(bytes: &mut [u8])
-    ensures { λ _. ⌜ Cleared backBytes (now (bytes .entry)) (now (bytes .exit)) ⌝ }
+// Zeros where there is room for them: nothing of an earlier call is left to be taken for this one's.
+fn clear_lent(bytes: &mut [u8], size: usize)
+    ensures { λ _. ⌜ Cleared size (now (bytes .entry)) (now (bytes .exit)) ⌝ }
 {
-    if bytes.len() < BACK_BYTES {
+    if bytes.len() < size {
         return;
     }
-    poly::clear(bytes, BACK_BYTES);
+    poly::clear(bytes, size);
 }
 
 #[no_mangle]
@@ -108,7 +108,7 @@ pub extern "C" fn pluck_turn(
         (now (back .exit)) number ⌝ }
 {
     if note.len() < NOTE_BYTES {
-        clear_back(back);
+        clear_lent(back, BACK_BYTES);
         return 9;
     }
     let given = read_note(note);
@@ -135,7 +135,7 @@ pub extern "C" fn pluck_finish(note: &[u8], rows: &[u8], curve: &mut [u8], back:
         (now (back .exit)) number ⌝ }
 {
     if note.len() < NOTE_BYTES {
-        clear_back(back);
+        clear_lent(back, BACK_BYTES);
         return 9;
     }
     let given = read_note(note);

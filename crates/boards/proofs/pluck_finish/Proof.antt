@@ -4,8 +4,8 @@ use Rattle.boards.proofs.Calling.{finish-unread, finish-short, finish-d
 use Rattle.boards.proofs.pluck_finish.Statement.{statement}
 use Rattle.boards.proofs.pluck_finish.Tie as tie
 
-clear-back-requires : tie.Need-clear-back-requires
-clear-back-requires c κs = search needs
+clear-lent-requires : tie.Need-clear-lent-requires
+clear-lent-requires c κs = search needs
 
 same-length : tie.Need-same-length
 same-length c = search needs
@@ -13,7 +13,7 @@ same-length c = search needs
 returns : tie.Need-returns
 returns c =
     let cleared = c .before .before in
-    finish-unread (cleared .before .before .if1 .taken) (cleared .clear-back .ensures)
+    finish-unread (cleared .before .before .if1 .taken) (cleared .clear-lent .ensures)
 
 read-note-requires : tie.Need-read-note-requires
 read-note-requires c κs = search needs
@@ -59,7 +59,7 @@ pub pluck-finish-spec : {M : Type 1} → statement M
 pluck-finish-spec =
     tie.close
     (tie.spec
-    clear-back-requires
+    clear-lent-requires
     same-length
     returns
     read-note-requires

@@ -1,9 +1,9 @@
--- `clear_back` meets its contract: five zeros where there is room for them.
+-- `clear_lent` meets its contract: zeros where there is room for them.
 use native.Mathlib.Omega.{arith}
 use borrow.Author.Needs.{needs}
 use Rattle.boards.proofs.LentLaws.{cleared-none}
-use Rattle.boards.proofs.clear_back.Statement.{statement}
-use Rattle.boards.proofs.clear_back.Tie as tie
+use Rattle.boards.proofs.clear_lent.Statement.{statement}
+use Rattle.boards.proofs.clear_lent.Tie as tie
 
 returns : tie.Need-returns
 returns c = cleared-none (c .if1 .taken)
@@ -20,5 +20,5 @@ returns-2 c =
     let enough = cleared .before .before .if1 .left in
     record { short = λ h. absurd (omega arith); zeroed = λ h. cleared .clear .ensures }
 
-pub clear-back-spec : {M : Type 1} → statement M
-clear-back-spec = tie.close (tie.spec returns clear-requires same-length returns-2)
+pub clear-lent-spec : {M : Type 1} → statement M
+clear-lent-spec = tie.close (tie.spec returns clear-requires same-length returns-2)
