@@ -1,6 +1,6 @@
--- A call with room in note and back is its job, on the note that is read there and with what it hands back written there; a call without
--- it is refused.
-use mathlib.Core.Path.{_≡_, refl, sym, ap, _∙_}
+-- A call with room for its note and for what it hands back is its job, on the note that is read there and with what it hands back written
+-- there; a call without it is refused.
+use mathlib.Core.Path.{_≡_, refl, sym, ap, subst, _∙_}
 use mathlib.Core.Logic.{inl, inr, ⊎-elim, dite}
 use mathlib.Core.List.{List, []}
 use Prim.Native.Nat.{ℕ, _<_, _≤_}
@@ -9,7 +9,7 @@ use native.Mathlib.Omega.{arith}
 use lib.ListN.{length, take, drop}
 use borrow.Author.Needs.{needs}
 use Rattle.poly.specs.Table.{First}
-use Rattle.poly.proofs.TableLaws.{first-passed, first-then, wider, narrower, closed}
+use Rattle.poly.proofs.TableLaws.{first-passed, first-stops, first-goes, first-then, wider, narrower, closed}
 use Rattle.poly.proofs.BufferLaws.{untouched-none}
 use Rattle.rows.specs.Bytes.{shape, curveBytes, rowsBytes}
 use Rattle.rows.specs.Jobs.{HasStarted, HasTurned, HasFinished, startTable, turnTable, finishTable, shapeOf}
@@ -19,9 +19,16 @@ use Rattle.rows.specs.declared.Finished.{Finished}
 use Rattle.rows.proofs.Placing.{curve-some, rows-some}
 use Rattle.near.specs.Job.{HasListed, listTable}
 use Rattle.near.specs.declared.Near.{Near}
+use Rattle.departures.specs.Jobs.{readTable, HasRead}
+use Rattle.departures.specs.Hearing.{hearTable, HasHeard}
+use Rattle.departures.specs.declared.Reading.{Reading}
+use Rattle.departures.specs.declared.Heard.{Heard}
+use Rattle.boards.specs.declared.departure_calls.HeardBack.{HeardBack}
 use Rattle.boards.specs.Lent.{noteBytes, backBytes, noteOf, noteInto, backOfTurn, backOfFinish, backOfList, backInto, Cleared}
+use Rattle.boards.specs.Lent.{departureBytes, heardBytes, departureInto, backOfHear, heardInto}
 use Rattle.boards.specs.Calls.{StartCall, TurnCall, FinishCall, ListCall, startCallTable, turnCallTable, finishCallTable, listCallTable}
-use Rattle.boards.proofs.LentLaws.{note-same, cleared-none, cleared-note, cleared-back, cleared-determined}
+use Rattle.boards.specs.DepartureCalls.{ReadCall, HearCall, readCallTable, hearCallTable}
+use Rattle.boards.proofs.LentLaws.{note-same, cleared-none, cleared-note, cleared-back, cleared-heard, cleared-determined}
 
 -- start
 
@@ -202,4 +209,69 @@ list-done {p} {points} {word} {k} {m} {l} {t} {room} {messages = messages} {back
       refused = λ n.
           let (none, kept, same) = has .refused n in
           (ap (λ j. j .number) none, kept, same, rw (b, none) (cleared-back long));
+    }
+
+-- read
+
+pub read-refused : {message departure departure′ : List ℕ} {job : Reading} → HasRead message job → (job .number ≡ 0 → ⊥)
+    → Cleared departureBytes departure departure′
+    → ReadCall message departure departure′ (job .number)
+read-refused {message} {departure} {job = job} has n c =
+    record {
+      first = first-stops 1 (readCallTable message departure) (job .number) (has .first) n;
+      done = λ z. absurd (n z);
+      refused = λ _. c;
+    }
+
+pub read-short : {message departure : List ℕ} {job : Reading} → HasRead message job → job .number ≡ 0 → length departure < departureBytes
+    → ReadCall message departure departure 9
+read-short {message} {departure} has z short =
+    record {
+      first = first-goes 1 (readCallTable message departure) 9 (search needs) (subst (First (readTable message)) z (has .first)) (inl (short, refl));
+      done = λ e. absurd (omega arith);
+      refused = λ n. cleared-none short;
+    }
+
+pub read-done : {message departure departure′ : List ℕ} {job : Reading} → HasRead message job → job .number ≡ 0
+    → departureBytes ≤ length departure → departure′ ≡ departureInto (job .departure) departure
+    → ReadCall message departure departure′ 0
+read-done {message} {departure} {job = job} has z long e =
+    let first = subst (First (readTable message)) z (has .first) in
+    record {
+      first = first-goes 1 (readCallTable message departure) 0 (search needs) first (inr (λ h. omega arith, refl));
+      done = λ _. (job, has, sym z, e);
+      refused = λ n. absurd (n refl);
+    }
+
+-- hear
+
+pub hear-short : {points word : List ℕ} {m l t : ℕ} {room room′ heard : List ℕ} {job : Heard} {back : HeardBack} → length heard < heardBytes
+    → HasHeard points word m l t [] room′ job → back ≡ backOfHear job
+    → HearCall points word m l t room room heard heard (back .number)
+hear-short {points} {word} {m} {l} {t} {room} {heard = heard} short has e =
+    let asked = hearTable points word m l t [] in
+    let table = hearCallTable points word m l t room heard in
+    let first = first-then (take 8 table) (drop 8 asked) (drop 8 table) (has .entry) (closed (omega arith) short) (has .first) in
+    record {
+      entry = has .entry;
+      first = first;
+      done = λ z. absurd (first-passed table (search needs) first z .1 .1 .1 .1 .1 .1 .1 .1 .0 (inr short));
+      refused = λ n. (ap (λ x. x .number) (e ∙ ap backOfHear (has .refused n .0)), refl, cleared-none short);
+    }
+
+pub hear-done : {points word : List ℕ} {m l t : ℕ} {room room′ heard heard′ : List ℕ} {job : Heard} {back : HeardBack}
+    → heardBytes ≤ length heard → HasHeard points word m l t room room′ job → back ≡ backOfHear job
+    → heard′ ≡ heardInto back heard
+    → HearCall points word m l t room room′ heard heard′ (back .number)
+hear-done {points} {word} {m} {l} {t} {room} {heard = heard} {job = job} long has e b =
+    let asked = hearTable points word m l t room in
+    let table = hearCallTable points word m l t room heard in
+    record {
+      entry = has .entry;
+      first = first-then (take 8 table) (drop 8 asked) (drop 8 table) (has .entry) (wider (λ h. omega arith)) (has .first);
+      done = λ z. (job, has, ap (λ x. x .number) e, b ∙ ap (λ x. heardInto x heard) e);
+      refused = λ n.
+          let (none, kept) = has .refused n in
+          let zeros = e ∙ ap backOfHear none in
+          (ap (λ x. x .number) zeros, kept, rw (b, zeros) (cleared-heard (has .entry) long));
     }

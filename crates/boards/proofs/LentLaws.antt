@@ -10,8 +10,11 @@ use Rattle.poly.specs.Lent.{Zeroed}
 use Rattle.poly.proofs.BufferLaws.{untouched-none, zeroed-unique}
 use Rattle.rows.specs.Jobs.{noNote}
 use Rattle.rows.specs.declared.Note.{Note}
+use Rattle.departures.specs.declared.Heard.the-variants.{Refused}
 use Rattle.boards.specs.declared.Back.{Back}
-use Rattle.boards.specs.Lent.{noteBytes, backBytes, noteOf, noteInto, backInto, updatesOf, finishedOf, Cleared}
+use Rattle.boards.specs.declared.departure_calls.HeardBack.{HeardBack}
+use Rattle.boards.specs.Lent.{noteBytes, backBytes, heardBytes, noteOf, noteInto, backInto, updatesOf, finishedOf}
+use Rattle.boards.specs.Lent.{bytesOf, backOfHear, heardInto, Cleared}
 
 -- a note
 
@@ -49,6 +52,12 @@ pub finished-kept : (number : ℕ) (back : Back) (xs : List ℕ) → backBytes �
     → finishedOf number (backInto back xs) ≡ record { number = number; weight = back .weight; height = back .height }
 finished-kept number back xs h = ap (finishedOf number) (back-front back xs h)
 
+-- what is heard
+
+heard-front : (back : HeardBack) (xs : List ℕ) → heardBytes ≤ length xs
+    → heardInto back xs ≡ (bytesOf (back .departure) ++ back .count ∷ []) ++ drop heardBytes xs
+heard-front back xs h = sets-eq (bytesOf (back .departure) ++ back .count ∷ []) xs 0 h
+
 -- zeros
 
 zeroed-cons : {size x : ℕ} {xs ys : List ℕ} → Zeroed size xs ys → Zeroed (suc size) (x ∷ xs) (0 ∷ ys)
@@ -82,6 +91,10 @@ nothing = record { updates = 0; weight = 0; height = 0; count = 0 }
 
 pub cleared-back : {xs : List ℕ} → backBytes ≤ length xs → Cleared backBytes xs (backInto nothing xs)
 cleared-back {xs} h = rw (back-front nothing xs h) (cleared-zeros backBytes h)
+
+-- a refused hear hands back zeros
+pub cleared-heard : (number : ℕ) {xs : List ℕ} → heardBytes ≤ length xs → Cleared heardBytes xs (heardInto (backOfHear (Refused number)) xs)
+cleared-heard number {xs} h = rw (heard-front (backOfHear (Refused number)) xs h) (cleared-zeros heardBytes h)
 
 pub cleared-determined : {size : ℕ} {xs ys zs : List ℕ} → Cleared size xs ys → Cleared size xs zs → ys ≡ zs
 cleared-determined {size} {xs} {ys} {zs} a b = go (decLt (length xs) size)

@@ -1,14 +1,18 @@
--- How a note, and what a job hands back beside its number, lie in lent bytes.
---   noteBytes, backBytes    the bytes that each takes
+-- How a note, a departure, and what a job hands back beside its number, lie in lent bytes.
+--   noteBytes, backBytes, departureBytes, heardBytes    the bytes that each takes
 --   noteOf xs               the note in the first bytes of xs: p, n, k, m, l, r
 --   noteInto note xs        xs with the note in its first bytes
 --   backOfTurn, backOfFinish, backOfList    what each job hands back beside its number and its note; zero for what it does not have
 --   backInto back xs        xs with what is handed back in its first bytes: the updates, low byte first, the weight, the height, the count
 --   updatesOf xs            the updates in the first bytes of xs
 --   finishedOf number xs    what a finish hands back: the number, and the weight and the height in the first bytes of xs
+--   bytesOf d               a departure's bytes: the boat, the day, low byte first, the minute, low byte first
+--   departureInto d xs      xs with the departure in its first bytes
+--   backOfHear heard        what hear hands back: the number, the departure, the count; zeros for what there is not
+--   heardInto back xs       xs with the departure in its first bytes, and then the count
 --   Cleared size xs ys      ys is xs with its first `size` bytes zero, or xs itself where it has fewer
 use mathlib.Core.Path.{_≡_}
-use mathlib.Core.List.{List, [], _∷_}
+use mathlib.Core.List.{List, [], _∷_, _++_}
 use Prim.Native.Nat.{ℕ, _+_, _*_, _/_, _%_, _<_, _≤_}
 use lib.ListN.{length, getD}
 use lib.Seq.{sets}
@@ -17,13 +21,24 @@ use Rattle.rows.specs.declared.Note.{Note}
 use Rattle.rows.specs.declared.Turned.{Turned}
 use Rattle.rows.specs.declared.Finished.{Finished}
 use Rattle.near.specs.declared.Near.{Near}
+use Rattle.departures.specs.Jobs.{zeroDeparture}
+use Rattle.departures.specs.declared.Departure.{Departure}
+use Rattle.departures.specs.declared.Heard.{Heard}
+use Rattle.departures.specs.declared.Heard.the-variants.{None, One, Several, Refused}
 use Rattle.boards.specs.declared.Back.{Back}
+use Rattle.boards.specs.declared.departure_calls.HeardBack.{HeardBack}
 
 abbrev pub noteBytes : ℕ
 noteBytes = 6
 
 abbrev pub backBytes : ℕ
 backBytes = 5
+
+abbrev pub departureBytes : ℕ
+departureBytes = 5
+
+abbrev pub heardBytes : ℕ
+heardBytes = 6
 
 abbrev pub noteOf : List ℕ → Note
 noteOf xs = record { p = getD xs 0 0; n = getD xs 1 0; k = getD xs 2 0; m = getD xs 3 0; l = getD xs 4 0; r = getD xs 5 0 }
@@ -48,6 +63,21 @@ updatesOf xs = getD xs 0 0 + 256 * getD xs 1 0
 
 abbrev pub finishedOf : ℕ → List ℕ → Finished
 finishedOf number xs = record { number = number; weight = getD xs 2 0; height = getD xs 3 0 }
+
+abbrev pub bytesOf : Departure → List ℕ
+bytesOf d = d .boat ∷ d .day % 256 ∷ d .day / 256 ∷ d .minute % 256 ∷ d .minute / 256 ∷ []
+
+abbrev pub departureInto : Departure → List ℕ → List ℕ
+departureInto d xs = sets xs 0 (bytesOf d)
+
+abbrev pub backOfHear : Heard → HeardBack
+backOfHear None = record { number = 0; departure = zeroDeparture; count = 0 }
+backOfHear (One d) = record { number = 0; departure = d; count = 1 }
+backOfHear Several = record { number = 0; departure = zeroDeparture; count = 2 }
+backOfHear (Refused number) = record { number = number; departure = zeroDeparture; count = 0 }
+
+abbrev pub heardInto : HeardBack → List ℕ → List ℕ
+heardInto back xs = sets xs 0 (bytesOf (back .departure) ++ back .count ∷ [])
 
 pub record Cleared (size : ℕ) (xs ys : List ℕ) : Type 0 where
   pub short : length xs < size → ys ≡ xs

@@ -1,3 +1,4 @@
 pub mod Lent
 pub mod Calls
+pub mod DepartureCalls
 pub mod Examples

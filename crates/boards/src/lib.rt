@@ -9,6 +9,8 @@ ghost use Rattle.boards.specs.Lent.{noteBytes, backBytes, noteOf, noteIn
 ghost use Rattle.boards.specs.Calls.{StartCall, TurnCall, FinishCall, ListCall};
 use rows::Note;
 
+mod departure_calls; // departure_calls.rt: the jobs on departures for C
+
 const NOTE_BYTES: usize = 6;
 
 const BACK_BYTES: usize = 5;
