@@ -23,6 +23,7 @@ use Rattle.departures.specs.Jobs.{readTable, HasRead}
 use Rattle.departures.specs.Hearing.{hearTable, HasHeard}
 use Rattle.departures.specs.declared.Reading.{Reading}
 use Rattle.departures.specs.declared.Heard.{Heard}
+use Rattle.departures.specs.declared.Heard.the-variants.{Refused}
 use Rattle.boards.specs.declared.departure_calls.HeardBack.{HeardBack}
 use Rattle.boards.specs.Lent.{noteBytes, backBytes, noteOf, noteInto, backOfTurn, backOfFinish, backOfList, backInto, Cleared}
 use Rattle.boards.specs.Lent.{departureBytes, heardBytes, departureInto, backOfHear, heardInto}
@@ -275,3 +276,23 @@ hear-done {points} {word} {m} {l} {t} {room} {heard = heard} {job = job} long ha
           let zeros = e ∙ ap backOfHear none in
           (ap (λ x. x .number) zeros, kept, rw (b, zeros) (cleared-heard (has .entry) long));
     }
+
+pub hear-job : {points word : List ℕ} {m l t : ℕ} {room room′ heard heard′ : List ℕ} {number : ℕ} → heardBytes ≤ length heard
+    → HearCall points word m l t room room′ heard heard′ number
+    → (job : Heard) × HasHeard points word m l t room room′ job × (number ≡ backOfHear job .number) × (heard′ ≡ heardInto (backOfHear job) heard)
+hear-job {points} {word} {m} {l} {t} {room} {heard = heard} long call =
+    let asked = hearTable points word m l t room in
+    let table = hearCallTable points word m l t room heard in
+    dite (ℕ-discrete (call .entry) 0) (λ z. call .done z)
+    (λ n.
+    let (number-is, room-is, c) = call .refused n in (
+      Refused (call .entry),
+      record {
+        entry = call .entry;
+        first = first-then (take 8 table) (drop 8 table) (drop 8 asked) (call .entry) (narrower (λ h. omega arith)) (call .first);
+        answers = λ z. absurd (n z);
+        refused = λ _. (refl, room-is);
+      },
+      number-is,
+      cleared-determined c (cleared-heard (call .entry) long),
+    ))

@@ -1,10 +1,10 @@
 -- What is written into lent bytes is what is read there, and zeros clear them.
-use mathlib.Core.Path.{_≡_, refl, sym, ap, _∙_}
+use mathlib.Core.Path.{_≡_, refl, sym, ap, ap₂, _∙_}
 use mathlib.Core.List.{List, [], _∷_, _++_}
 use Prim.Native.Nat.{ℕ, zero, suc, _/_, _%_, _<_, _≤_}
 use native.Mathlib.Decide.{decLt}
 use native.Mathlib.Omega.{arith}
-use lib.ListN.{length, getD, drop, replicate}
+use lib.ListN.{length, getD, take, drop, replicate}
 use lib.Seq.{set-getD, length-sets, sets-eq}
 use Rattle.poly.specs.Lent.{Zeroed}
 use Rattle.poly.proofs.BufferLaws.{untouched-none, zeroed-unique}
@@ -13,8 +13,8 @@ use Rattle.rows.specs.declared.Note.{Note}
 use Rattle.departures.specs.declared.Heard.the-variants.{Refused}
 use Rattle.boards.specs.declared.Back.{Back}
 use Rattle.boards.specs.declared.departure_calls.HeardBack.{HeardBack}
-use Rattle.boards.specs.Lent.{noteBytes, backBytes, heardBytes, noteOf, noteInto, backInto, updatesOf, finishedOf}
-use Rattle.boards.specs.Lent.{bytesOf, backOfHear, heardInto, Cleared}
+use Rattle.boards.specs.Lent.{noteBytes, backBytes, departureBytes, heardBytes, noteOf, noteInto, backInto, updatesOf, finishedOf}
+use Rattle.boards.specs.Lent.{bytesOf, departureIn, backOfHear, heardInto, countIn, Cleared}
 
 -- a note
 
@@ -57,6 +57,17 @@ finished-kept number back xs h = ap (finishedOf number) (back-front back xs h)
 heard-front : (back : HeardBack) (xs : List ℕ) → heardBytes ≤ length xs
     → heardInto back xs ≡ (bytesOf (back .departure) ++ back .count ∷ []) ++ drop heardBytes xs
 heard-front back xs h = sets-eq (bytesOf (back .departure) ++ back .count ∷ []) xs 0 h
+
+pub bytes-kept : (back : HeardBack) (xs : List ℕ) → heardBytes ≤ length xs → take departureBytes (heardInto back xs) ≡ bytesOf (back .departure)
+bytes-kept back xs h = ap (take departureBytes) (heard-front back xs h)
+
+pub departure-kept : (back : HeardBack) (xs : List ℕ) → heardBytes ≤ length xs → departureIn (heardInto back xs) ≡ back .departure
+departure-kept back xs h =
+    ap departureIn (heard-front back xs h)
+    ∙ ap₂ (λ (x y : ℕ). record { boat = back .departure .boat; day = x; minute = y }) (omega arith) (omega arith)
+
+pub count-kept : (back : HeardBack) (xs : List ℕ) → heardBytes ≤ length xs → countIn (heardInto back xs) ≡ back .count
+count-kept back xs h = ap countIn (heard-front back xs h)
 
 -- zeros
 

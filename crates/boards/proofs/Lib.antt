@@ -3,3 +3,4 @@ pub mod Calling
 pub mod Determined
 pub mod Driving
 pub mod Cutting
+pub mod Hearing

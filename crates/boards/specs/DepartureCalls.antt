@@ -4,21 +4,23 @@
 --   ReadCall, HearCall    the number by the call's table, and:
 --     done          if no line of it applies: what the job's own contract says, with what it hands back in the lent bytes
 --     refused       if one does: every byte is as it was, but for zeros where the answer would stand, if there is room for them
+--   SentHeard d number heard    what the call may tell where the departure d was sent and agrees in t places or more
 -- Write and show hand back their number alone: their calls have the job's own contract.
 use mathlib.Core.Path.{_≡_}
 use mathlib.Core.Logic.{_⊎_}
 use mathlib.Core.List.{List, [], _∷_, _++_}
 use Prim.Native.Nat.{ℕ, _<_}
-use lib.ListN.{length}
+use lib.ListN.{length, take}
 use Rattle.poly.specs.Limits.{workingRoom}
 use Rattle.poly.specs.Table.{Refusal, First, TooShort}
 use Rattle.rows.specs.Jobs.{requestTable}
 use Rattle.departures.specs.Departures.{departureField, departureSymbols}
 use Rattle.departures.specs.Jobs.{readTable, HasRead}
 use Rattle.departures.specs.Hearing.{HasHeard}
+use Rattle.departures.specs.declared.Departure.{Departure}
 use Rattle.departures.specs.declared.Reading.{Reading}
 use Rattle.departures.specs.declared.Heard.{Heard}
-use Rattle.boards.specs.Lent.{departureBytes, heardBytes, departureInto, backOfHear, heardInto, Cleared}
+use Rattle.boards.specs.Lent.{departureBytes, heardBytes, bytesOf, departureInto, departureIn, backOfHear, heardInto, countIn, Cleared}
 
 -- read
 
@@ -45,3 +47,12 @@ pub record HearCall (points word : List ℕ) (m l t : ℕ) (room room′ heard h
   pub done : entry ≡ 0 → (job : Heard) × HasHeard points word m l t room room′ job × (number ≡ backOfHear job .number)
       × (heard′ ≡ heardInto (backOfHear job) heard)
   pub refused : (entry ≡ 0 → ⊥) → (number ≡ entry) × (room′ ≡ room) × Cleared heardBytes heard heard′
+
+-- the departure that was sent
+
+pub record SentHeard (d : Departure) (number : ℕ) (heard : List ℕ) : Type 0 where
+  -- if one is shown, its five bytes are those of the departure that was sent, and are read as it
+  pub shown : number ≡ 0 → countIn heard ≡ 1 → (take departureBytes heard ≡ bytesOf d) × (departureIn heard ≡ d)
+  -- there is never none, and a message that is alone is a departure
+  pub some : number ≡ 0 → 0 < countIn heard
+  pub spelt : number ≡ 15 → ⊥

@@ -6,7 +6,7 @@ use Prim.Native.Nat.{ℕ}
 use Rattle.rows.specs.declared.Note.{Note}
 use Rattle.departures.specs.declared.Departure.{Departure}
 use Rattle.departures.specs.declared.Heard.the-variants.{One, Several}
-use Rattle.boards.specs.Lent.{noteOf, noteInto, backInto, updatesOf, finishedOf, departureInto, backOfHear, heardInto}
+use Rattle.boards.specs.Lent.{noteOf, noteInto, backInto, updatesOf, finishedOf, departureInto, departureIn, backOfHear, heardInto, countIn}
 
 abbrev lent : List ℕ
 lent = 9 ∷ 9 ∷ 9 ∷ 9 ∷ 9 ∷ 9 ∷ 9 ∷ []
@@ -35,8 +35,14 @@ last-boat = record { boat = 4; day = 368; minute = 1455 }
 departure-example : departureInto last-boat lent ≡ 4 ∷ 112 ∷ 1 ∷ 175 ∷ 5 ∷ 9 ∷ 9 ∷ []
 departure-example = refl
 
+departure-read : departureIn (departureInto last-boat lent) ≡ last-boat
+departure-read = refl
+
 one-example : heardInto (backOfHear (One last-boat)) lent ≡ 4 ∷ 112 ∷ 1 ∷ 175 ∷ 5 ∷ 1 ∷ 9 ∷ []
 one-example = refl
 
 several-example : heardInto (backOfHear Several) lent ≡ 0 ∷ 0 ∷ 0 ∷ 0 ∷ 0 ∷ 2 ∷ 9 ∷ []
 several-example = refl
+
+count-example : countIn (4 ∷ 112 ∷ 1 ∷ 175 ∷ 5 ∷ 1 ∷ lent) ≡ 1
+count-example = refl

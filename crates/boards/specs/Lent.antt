@@ -8,8 +8,10 @@
 --   finishedOf number xs    what a finish hands back: the number, and the weight and the height in the first bytes of xs
 --   bytesOf d               a departure's bytes: the boat, the day, low byte first, the minute, low byte first
 --   departureInto d xs      xs with the departure in its first bytes
+--   departureIn xs          the departure in the first bytes of xs
 --   backOfHear heard        what hear hands back: the number, the departure, the count; zeros for what there is not
 --   heardInto back xs       xs with the departure in its first bytes, and then the count
+--   countIn xs              the count that is there
 --   Cleared size xs ys      ys is xs with its first `size` bytes zero, or xs itself where it has fewer
 use mathlib.Core.Path.{_≡_}
 use mathlib.Core.List.{List, [], _∷_, _++_}
@@ -70,6 +72,9 @@ bytesOf d = d .boat ∷ d .day % 256 ∷ d .day / 256 ∷ d .minute % 256 ∷ d 
 abbrev pub departureInto : Departure → List ℕ → List ℕ
 departureInto d xs = sets xs 0 (bytesOf d)
 
+abbrev pub departureIn : List ℕ → Departure
+departureIn xs = record { boat = getD xs 0 0; day = getD xs 1 0 + 256 * getD xs 2 0; minute = getD xs 3 0 + 256 * getD xs 4 0 }
+
 abbrev pub backOfHear : Heard → HeardBack
 backOfHear None = record { number = 0; departure = zeroDeparture; count = 0 }
 backOfHear (One d) = record { number = 0; departure = d; count = 1 }
@@ -78,6 +83,9 @@ backOfHear (Refused number) = record { number = number; departure = zeroDepartur
 
 abbrev pub heardInto : HeardBack → List ℕ → List ℕ
 heardInto back xs = sets xs 0 (bytesOf (back .departure) ++ back .count ∷ [])
+
+abbrev pub countIn : List ℕ → ℕ
+countIn xs = getD xs 5 0
 
 pub record Cleared (size : ℕ) (xs ys : List ℕ) : Type 0 where
   pub short : length xs < size → ys ≡ xs
