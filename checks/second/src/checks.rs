@@ -25,6 +25,7 @@ pub enum Refusal {
     Unfinished = 12,
     Weight = 13,
     Lines = 14,
+    Departure = 15,
 }
 
 impl Refusal {

@@ -20,7 +20,7 @@ pub const CURVE_MOST: usize = (HEIGHT_MOST as usize + 1) * (WIDTH_MOST + 1);
 /// The largest rows: l+1 curves.
 pub const ROWS_MOST: usize = (HEIGHT_MOST as usize + 1) * CURVE_MOST;
 
-/// The working room of a list.
+/// The working room of a list, and of hear.
 pub const WORKING_ROOM: usize = 32_768;
 
 /// The most messages: l of them, each with fewer symbols than there are points.
@@ -31,6 +31,24 @@ pub const UPDATES_MOST: usize = 3_886;
 
 /// The largest allowance.
 pub const ALLOWANCE_MOST: u16 = 65_535;
+
+/// The field size of a departure's message.
+pub const DEPARTURE_FIELD: u8 = 31;
+
+/// The symbols of a departure's message.
+pub const DEPARTURE_SYMBOLS: usize = 6;
+
+/// The greatest boat: one symbol.
+pub const BOAT_MOST: u8 = 30;
+
+/// The greatest service day: two digits.
+pub const DAY_MOST: u16 = 960;
+
+/// The greatest minute of a service day: thirty hours less a minute.
+pub const MINUTE_MOST: u16 = 1_799;
+
+/// The time that a departure prints.
+pub const TIME_BYTES: usize = 5;
 
 #[cfg(test)]
 mod tests {
@@ -64,5 +82,15 @@ mod tests {
         assert_eq!((FIELD_MOST, MULTIPLICITY_MOST, HEIGHT_MOST), (31, 4, 8));
         assert_eq!((WIDTH_MOST, MESSAGES_MOST), (240, 240));
         assert_eq!((CURVE_MOST, ROWS_MOST), (2_169, 19_521));
+    }
+
+    #[test]
+    fn every_boat_and_day_that_symbols_spell_is_in_range() {
+        let field = u16::from(DEPARTURE_FIELD);
+        assert_eq!(u16::from(BOAT_MOST), field - 1);
+        assert_eq!(DAY_MOST, field * field - 1);
+        assert!(MINUTE_MOST < field * field * field - 1);
+        assert_eq!(MINUTE_MOST, 30 * 60 - 1);
+        assert_eq!(TIME_BYTES, "29:59".len());
     }
 }

@@ -1,11 +1,12 @@
-//! The figures of docs/RULES.md, one after another. Field 7 throughout.
+//! The figures of docs/RULES.md, one after another. Field 7, but for the departures.
 
 mod common;
 
 use common::{interpolated, started, Interpolated};
 use second::curve::{Curve, Term};
 use second::limits::{ALLOWANCE_MOST, MESSAGES_MOST, WORKING_ROOM};
-use second::{encode, list, listing, start, turn, Note, Request, Setting};
+use second::{encode, list, listing, read, show, start, turn, write};
+use second::{Departure, Note, Request, Setting};
 
 const FIRST_SIX: [u8; 6] = [1, 2, 3, 4, 5, 6];
 const WORD_19: [u8; 6] = [6, 2, 4, 4, 4, 2];
@@ -204,6 +205,49 @@ fn refusals_of_the_figures() {
     let with = |symbol| number_of_list(&request(&[symbol, 2, 4, 4, 4, 2], 3, 2, 3), 4);
     assert_eq!(with(6), 0);
     assert_eq!(with(7), 6);
+}
+
+/// The last three symbols of a minute and the time that it prints, which no boat and no day changes.
+fn assert_minute(minute: u16, digits: [u8; 3], time: &str) {
+    for boat in 0..=30 {
+        for day in 0..=960 {
+            let departure = Departure { boat, day, minute };
+            let (mut message, mut text) = ([99; 6], [99; 5]);
+            assert_eq!(write(departure, &mut message), 0);
+            assert_eq!(show(departure, &mut text), 0);
+            assert_eq!((&message[3..], &text[..]), (&digits[..], time.as_bytes()));
+        }
+    }
+}
+
+#[test]
+fn the_minutes_1455_and_1799() {
+    assert_minute(1_455, [1, 15, 29], "24:15");
+    assert_minute(1_799, [1, 27, 1], "29:59");
+}
+
+#[test]
+fn the_last_departure_and_those_past_it() {
+    let numbers = |boat, day, minute| {
+        let departure = Departure { boat, day, minute };
+        let written = write(departure, &mut [99; 6]);
+        (written, show(departure, &mut [99; 5]))
+    };
+    assert_eq!(numbers(30, 960, 1_799), (0, 0));
+    assert_eq!(numbers(31, 960, 1_799), (15, 15));
+    assert_eq!(numbers(30, 961, 1_799), (15, 15));
+    assert_eq!(numbers(30, 960, 1_800), (15, 15));
+}
+
+#[test]
+fn the_message_of_the_last_minute_and_those_that_are_no_departure() {
+    let (boat, day, minute) = (7, 100, 1_799);
+    let last = Departure { boat, day, minute };
+    assert_eq!(read(&[7, 3, 7, 1, 27, 1]), (0, last));
+    let none = Departure::default();
+    assert_eq!(read(&[7, 3, 7, 1, 27, 2]), (15, none));
+    assert_eq!(read(&[7, 3, 7, 1, 15, 31]), (15, none));
+    assert_eq!(read(&[7, 3, 7, 1, 15]), (15, none));
 }
 
 #[test]
