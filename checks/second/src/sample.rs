@@ -1,8 +1,10 @@
 //! Random requests that no job refuses, and rows that turn accepts, for the tests and for the cases.
 
 use crate::curve::{Curve, Term};
+use crate::departure::{self, Departure};
 use crate::encode;
 use crate::field::{Field, FIELDS};
+use crate::limits::{BOAT_MOST, DAY_MOST, DEPARTURE_FIELD, DEPARTURE_SYMBOLS, MINUTE_MOST};
 use crate::limits::{HEIGHT_MOST, MULTIPLICITY_MOST};
 use crate::poly::{self, value};
 use crate::random::Random;
@@ -62,21 +64,29 @@ pub fn symbols(random: &mut Random, p: u8, count: usize) -> Vec<u8> {
         .collect()
 }
 
-fn encoded_message(random: &mut Random, p: u8, points: &[u8], k: usize) -> Vec<u8> {
-    let message = symbols(random, p, k);
+fn encoded(p: u8, points: &[u8], message: &[u8]) -> Vec<u8> {
     let mut word = vec![0; points.len()];
-    encode(p, points, &message, &mut word);
+    encode(p, points, message, &mut word);
+    word
+}
+
+fn encoded_message(random: &mut Random, p: u8, points: &[u8], k: usize) -> Vec<u8> {
+    encoded(p, points, &symbols(random, p, k))
+}
+
+/// A word with at most so many errors.
+fn disturbed(random: &mut Random, p: u8, mut word: Vec<u8>, most: usize) -> Vec<u8> {
+    for _ in 0..random.between(0, most) {
+        let place = random.below(word.len());
+        word[place] = random.below(usize::from(p)) as u8;
+    }
     word
 }
 
 /// An encoded message with at most n - k errors.
 fn near_a_message(random: &mut Random, p: u8, points: &[u8], k: usize) -> Vec<u8> {
-    let mut word = encoded_message(random, p, points, k);
-    for _ in 0..random.between(0, points.len() - k) {
-        let place = random.below(points.len());
-        word[place] = random.below(usize::from(p)) as u8;
-    }
-    word
+    let word = encoded_message(random, p, points, k);
+    disturbed(random, p, word, points.len() - k)
 }
 
 /// Each symbol from one of two or more messages, so that lists of two and more come up.
@@ -84,10 +94,72 @@ fn between_messages(random: &mut Random, p: u8, points: &[u8], k: usize) -> Vec<
     let words: Vec<Vec<u8>> = (0..random.pick(&[2, 2, 3, 4, 6]))
         .map(|_| encoded_message(random, p, points, k))
         .collect();
-    let places = 0..points.len();
+    mixed(random, &words)
+}
+
+fn mixed(random: &mut Random, words: &[Vec<u8>]) -> Vec<u8> {
+    let places = 0..words[0].len();
     places
         .map(|place| words[random.below(words.len())][place])
         .collect()
+}
+
+/// Any departure in range, the ends of the ranges more often than others.
+pub fn departure(random: &mut Random) -> Departure {
+    let mut number = |most: u16| {
+        let any = random.between(0, most.into()) as u16;
+        random.pick(&[any, any, any, any, 0, most])
+    };
+    Departure {
+        boat: number(BOAT_MOST.into()) as u8,
+        day: number(DAY_MOST),
+        minute: number(MINUTE_MOST),
+    }
+}
+
+/// The message of some departure.
+pub fn departure_message(random: &mut Random) -> Vec<u8> {
+    let mut message = vec![0; DEPARTURE_SYMBOLS];
+    departure::write(departure(random), &mut message);
+    message
+}
+
+/// The request of a list that hear makes: most words are near the messages of departures.
+pub fn heard(random: &mut Random, n: usize, m: usize, l: usize) -> Request {
+    let points = points(random, DEPARTURE_FIELD, n);
+    Request {
+        p: DEPARTURE_FIELD,
+        word: heard_word(random, &points),
+        points,
+        k: DEPARTURE_SYMBOLS as u8,
+        m: m as u8,
+        l: l as u8,
+    }
+}
+
+/// Few errors leave the message alone, with many others may come near; of six symbols most spell no departure.
+fn heard_word(random: &mut Random, points: &[u8]) -> Vec<u8> {
+    let (p, most) = (DEPARTURE_FIELD, points.len() - DEPARTURE_SYMBOLS);
+    let sent = |random: &mut Random| encoded(p, points, &departure_message(random));
+    match random.below(8) {
+        0 => word(random, p, points, DEPARTURE_SYMBOLS),
+        1 => {
+            let word = encoded_message(random, p, points, DEPARTURE_SYMBOLS);
+            disturbed(random, p, word, most / 2)
+        }
+        2 | 3 => {
+            let words = [sent(random), sent(random)];
+            mixed(random, &words)
+        }
+        4 => {
+            let word = sent(random);
+            disturbed(random, p, word, 2 * most)
+        }
+        _ => {
+            let word = sent(random);
+            disturbed(random, p, word, most / 2)
+        }
+    }
 }
 
 /// Any six bytes, most of them so small that the note is sometimes accepted.

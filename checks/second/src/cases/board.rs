@@ -1,6 +1,8 @@
 //! A board: some program's jobs, and the rows and the note that are kept between calls.
 
 use super::{Answer, Call, FILL, ROWS_KEPT};
+use crate::departure::Departure;
+use crate::hear::Heard;
 use crate::list::Listed;
 use crate::request::Request;
 use crate::setting::Note;
@@ -13,6 +15,10 @@ pub trait Jobs {
     fn finish(&self, note: Note, rows: &[u8], curve: &mut [u8]) -> (u8, u8, u8);
     fn list(&self, request: &Request, t: u8, room: &mut [u8], messages: &mut [u8]) -> Listed;
     fn program(&self, text: &[u8]) -> Vec<u8>;
+    fn write(&self, departure: Departure, message: &mut [u8]) -> u8;
+    fn read(&self, message: &[u8]) -> (u8, Departure);
+    fn show(&self, departure: Departure, text: &mut [u8]) -> u8;
+    fn hear(&self, points: &[u8], word: &[u8], m: u8, l: u8, t: u8, room: &mut [u8]) -> Heard;
 }
 
 /// The jobs of the second program.
@@ -41,6 +47,22 @@ impl Jobs for Second {
 
     fn program(&self, text: &[u8]) -> Vec<u8> {
         crate::listing(text)
+    }
+
+    fn write(&self, departure: Departure, message: &mut [u8]) -> u8 {
+        crate::write(departure, message)
+    }
+
+    fn read(&self, message: &[u8]) -> (u8, Departure) {
+        crate::read(message)
+    }
+
+    fn show(&self, departure: Departure, text: &mut [u8]) -> u8 {
+        crate::show(departure, text)
+    }
+
+    fn hear(&self, points: &[u8], word: &[u8], m: u8, l: u8, t: u8, room: &mut [u8]) -> Heard {
+        crate::hear(points, word, m, l, t, room)
     }
 }
 
@@ -90,13 +112,19 @@ impl<J: Jobs> Board<J> {
                 room,
                 messages,
             } => self.list(request, *t, *room, *messages),
-            Call::Program { text } => Answer::Program {
-                text: self.jobs.program(text),
-            },
-            Call::Change { place, byte } => {
-                self.rows[*place] = *byte;
-                Answer::Change
-            }
+            Call::Program { text } => self.program(text),
+            Call::Write { departure, message } => self.write(*departure, *message),
+            Call::Read { message } => self.read(message),
+            Call::Show { departure, text } => self.show(*departure, *text),
+            Call::Hear {
+                points,
+                word,
+                m,
+                l,
+                t,
+                room,
+            } => self.hear(points, word, [*m, *l, *t], *room),
+            Call::Change { place, byte } => self.change(*place, *byte),
         }
     }
 
@@ -148,5 +176,37 @@ impl<J: Jobs> Board<J> {
             room,
             messages,
         }
+    }
+    fn program(&self, text: &[u8]) -> Answer {
+        let text = self.jobs.program(text);
+        Answer::Program { text }
+    }
+
+    fn write(&self, departure: Departure, message: usize) -> Answer {
+        let mut message = vec![FILL; message];
+        let number = self.jobs.write(departure, &mut message);
+        Answer::Write { number, message }
+    }
+
+    fn read(&self, message: &[u8]) -> Answer {
+        let (number, departure) = self.jobs.read(message);
+        Answer::Read { number, departure }
+    }
+
+    fn show(&self, departure: Departure, text: usize) -> Answer {
+        let mut text = vec![FILL; text];
+        let number = self.jobs.show(departure, &mut text);
+        Answer::Show { number, text }
+    }
+
+    fn hear(&self, points: &[u8], word: &[u8], [m, l, t]: [u8; 3], room: usize) -> Answer {
+        let mut room = vec![FILL; room];
+        let heard = self.jobs.hear(points, word, m, l, t, &mut room);
+        Answer::Hear { heard, room }
+    }
+
+    fn change(&mut self, place: usize, byte: u8) -> Answer {
+        self.rows[place] = byte;
+        Answer::Change
     }
 }

@@ -1,5 +1,7 @@
 //! A call with all that is given to it, and an answer with all that is handed back.
 
+use crate::departure::Departure;
+use crate::hear::Heard;
 use crate::list::Listed;
 use crate::request::Request;
 use crate::setting::Note;
@@ -36,6 +38,25 @@ pub enum Call {
     },
     Program {
         text: Vec<u8>,
+    },
+    Write {
+        departure: Departure,
+        message: usize,
+    },
+    Read {
+        message: Vec<u8>,
+    },
+    Show {
+        departure: Departure,
+        text: usize,
+    },
+    Hear {
+        points: Vec<u8>,
+        word: Vec<u8>,
+        m: u8,
+        l: u8,
+        t: u8,
+        room: usize,
     },
     /// No job: one byte of the board's rows is written.
     Change {
@@ -75,6 +96,22 @@ pub enum Answer {
     },
     Program {
         text: Vec<u8>,
+    },
+    Write {
+        number: u8,
+        message: Vec<u8>,
+    },
+    Read {
+        number: u8,
+        departure: Departure,
+    },
+    Show {
+        number: u8,
+        text: Vec<u8>,
+    },
+    Hear {
+        heard: Heard,
+        room: Vec<u8>,
     },
     Change,
 }

@@ -1,4 +1,4 @@
-//! What encode, start and list are asked, with faults: each test behind a number is failed now and then, and several
+//! What encode, start, list and hear are asked, with faults: each test behind a number is failed now and then, and several
 //! at once, so that the order of the refusals is tried.
 
 use super::{Call, Scale, FILL};
@@ -22,8 +22,7 @@ pub struct Asked {
 
 impl Asked {
     /// No job refuses it but with 13. The buffers are sometimes longer than they need be.
-    pub fn sound(random: &mut Random, scale: Scale) -> Asked {
-        let request = scale.request(random);
+    fn of(random: &mut Random, request: Request) -> Asked {
         let setting = request.setting();
         Asked {
             message: sample::symbols(random, request.p, setting.k),
@@ -36,28 +35,46 @@ impl Asked {
         }
     }
 
-    /// With a fault, sometimes with two or three; some of them are none to one job or another.
+    pub fn sound(random: &mut Random, scale: Scale) -> Asked {
+        let request = scale.request(random);
+        Asked::of(random, request)
+    }
+
     pub fn faulty(random: &mut Random, scale: Scale) -> Asked {
-        let mut asked = Asked::sound(random, scale);
-        let setting = asked.request.setting();
+        Asked::sound(random, scale).spoiled(random, scale)
+    }
+
+    /// For a list.
+    pub fn near(random: &mut Random, scale: Scale) -> Asked {
+        Asked::sound(random, scale).brought_near(random, scale)
+    }
+
+    /// For hear.
+    pub fn heard(random: &mut Random, scale: Scale) -> Asked {
+        let request = scale.heard(random);
+        Asked::of(random, request).brought_near(random, scale)
+    }
+
+    /// With a fault, sometimes with two or three; some of them are none to one job or another.
+    fn spoiled(mut self, random: &mut Random, scale: Scale) -> Asked {
+        let setting = self.request.setting();
         for _ in 0..random.pick(&[1, 1, 1, 2, 3]) {
             let fault = random.below(scale.faults());
-            asked.spoil(random, &setting, fault);
+            self.spoil(random, &setting, fault);
         }
-        asked
+        self
     }
 
     /// Faulty once in three times; else t is mostly the least number above the weight, where lists are longest.
-    pub fn near(random: &mut Random, scale: Scale) -> Asked {
+    fn brought_near(self, random: &mut Random, scale: Scale) -> Asked {
         if random.once_in(3) {
-            return Asked::faulty(random, scale);
+            return self.spoiled(random, scale);
         }
-        let asked = Asked::sound(random, scale);
         if random.once_in(3) {
-            return asked;
+            return self;
         }
-        let t = least_vouched(&asked.request);
-        Asked { t, ..asked }
+        let t = least_vouched(&self.request);
+        Asked { t, ..self }
     }
 
     pub fn encode(self) -> Call {
@@ -82,6 +99,20 @@ impl Asked {
             t: self.t,
             room: self.room,
             messages: self.messages,
+        }
+    }
+
+    pub fn hear(self) -> Call {
+        let Request {
+            points, word, m, l, ..
+        } = self.request;
+        Call::Hear {
+            points,
+            word,
+            m,
+            l,
+            t: self.t,
+            room: self.room,
         }
     }
 
@@ -123,7 +154,11 @@ impl Asked {
         self.request.word.resize(random.pick(&lengths), 0);
     }
 
+    /// In hear k is fixed: there it takes fewer points.
     fn spoil_message_length(&mut self, random: &mut Random, setting: &Setting) {
+        if random.once_in(2) {
+            return self.resize(random.between(3, setting.k.max(3)));
+        }
         self.request.k = random.pick(&[0, 1, setting.n as u8, 255]);
         let length = random.pick(&[0, 1, setting.n, setting.n + 1]);
         self.message.resize(length, 1);

@@ -3,6 +3,7 @@
 
 mod board;
 mod call;
+mod departures;
 mod faults;
 mod garbage;
 mod scale;

@@ -1,6 +1,7 @@
 //! How large the cases are.
 
 use crate::field::FIELDS;
+use crate::limits::{DEPARTURE_FIELD, DEPARTURE_SYMBOLS};
 use crate::limits::{FIELD_MOST, HEIGHT_MOST, MULTIPLICITY_MOST};
 use crate::random::Random;
 use crate::request::Request;
@@ -25,6 +26,21 @@ impl Scale {
             (1, Scale::Wide) => crowded(random),
             _ => sample::request(random),
         }
+    }
+
+    /// A request of hear's, at all points more often than at fewer.
+    pub(super) fn heard(self, random: &mut Random) -> Request {
+        let most = usize::from(DEPARTURE_FIELD);
+        let any = random.between(DEPARTURE_SYMBOLS + 1, most);
+        let n = random.pick(&[any, most]);
+        let (most_m, most_l) = match (random.below(8), self) {
+            (0, _) => (MULTIPLICITY_MOST, HEIGHT_MOST),
+            (_, Scale::Kept) => (2, 4),
+            (_, Scale::Wide) => (3, 6),
+        };
+        let m = random.between(1, most_m.into());
+        let l = random.between(m, most_l.into());
+        sample::heard(random, n, m, l)
     }
 
     /// The kinds of faults; the last, lengths that no byte holds, is not for files.

@@ -1,9 +1,9 @@
-//! Sessions: a start, turns and finish on the rows of one board, some of it disturbed; encode, list and the program come
-//! in between.
+//! Sessions: a start, turns and finish on the rows of one board, some of it disturbed; encode, list, the program and the
+//! jobs on departures come in between.
 
 use super::faults::{excess, Asked};
 use super::garbage::{damaged, dependent, with_few_altered, wrong_note};
-use super::{text, Answer, Board, Call, Scale, Second};
+use super::{departures, text, Answer, Board, Call, Scale, Second};
 use crate::limits::ALLOWANCE_MOST;
 use crate::random::Random;
 use crate::setting::{Note, Setting};
@@ -74,6 +74,10 @@ impl Cases {
         let mut calls = vec![
             Asked::sound(random, scale).encode(),
             Asked::near(random, scale).list(),
+            departures::write(random),
+            departures::read(random, scale),
+            departures::show(random),
+            Asked::heard(random, scale).hear(),
             text::program(random, scale),
         ];
         let faulty = Asked::faulty(random, scale);

@@ -1,7 +1,7 @@
 //! An answer as a line.
 
 use second::cases::{Answer, Call, Case};
-use second::Note;
+use second::{Departure, Heard, Listed, Note, DONE};
 
 /// Empty for a change.
 pub fn line(case: &Case) -> Vec<u8> {
@@ -15,12 +15,10 @@ pub fn line(case: &Case) -> Vec<u8> {
             note,
             updates,
             rows,
-        } => format!(
-            "{} {number} note {} updates {updates} rows {}",
-            turn(&case.call),
-            numbers(*note),
-            sum(rows)
-        ),
+        } => {
+            let turned = format!("{} {number} note {}", turn(&case.call), numbers(*note));
+            format!("{turned} updates {updates} rows {}", sum(rows))
+        }
         Answer::Finish {
             number,
             weight,
@@ -31,18 +29,27 @@ pub fn line(case: &Case) -> Vec<u8> {
             sum(curve)
         ),
         Answer::List {
-            listed: (number, count, updates, weight),
+            listed,
             room,
             messages,
-        } => format!(
-            "list {number} count {count} updates {updates} weight {weight} room {} messages{}",
-            sum(room),
-            bytes(messages)
-        ),
+        } => list(*listed, room, messages),
         Answer::Program { text } => return printed(text),
+        Answer::Write { number, message } => format!("write {number} message{}", bytes(message)),
+        Answer::Read { number, departure } => format!("read {number} {}", spelled(*departure)),
+        Answer::Show { number, text } => format!("show {number} text{}", bytes(text)),
+        Answer::Hear { heard, room } => format!("hear {} room {}", told(*heard), sum(room)),
         Answer::Change => return Vec::new(),
     };
     (text + "\n").into_bytes()
+}
+
+fn list((number, count, updates, weight): Listed, room: &[u8], messages: &[u8]) -> String {
+    let numbers = format!("{number} count {count} updates {updates} weight {weight}");
+    format!(
+        "list {numbers} room {} messages{}",
+        sum(room),
+        bytes(messages)
+    )
 }
 
 fn printed(text: &[u8]) -> Vec<u8> {
@@ -60,6 +67,23 @@ fn turn(call: &Call) -> &'static str {
 fn numbers(note: Note) -> String {
     let Note { p, n, k, m, l, r } = note;
     format!("{p} {n} {k} {m} {l} {r}")
+}
+
+fn spelled(departure: Departure) -> String {
+    let Departure { boat, day, minute } = departure;
+    format!("departure {boat} {day} {minute}")
+}
+
+/// The number, the count and the departure, as the call for C hands them back.
+fn told(heard: Heard) -> String {
+    let none = Departure::default();
+    let (number, count, departure) = match heard {
+        Heard::None => (DONE, 0, none),
+        Heard::One(departure) => (DONE, 1, departure),
+        Heard::Several => (DONE, 2, none),
+        Heard::Refused(number) => (number, 0, none),
+    };
+    format!("{number} count {count} {}", spelled(departure))
 }
 
 fn bytes(bytes: &[u8]) -> String {

@@ -8,24 +8,26 @@
 //!
 //! | byte | holds |
 //! |---|---|
-//! | 0 | job: 1 encode, 2 start, 3 turn, 4 turn in place, 5 finish, 6 list, 7 program, 8 change |
-//! | 1 | p |
+//! | 0 | job: 1 encode, 2 start, 3 turn, 4 turn in place, 5 finish, 6 list, 7 program, 8 change, 9 write, 10 read, 11 show, 12 hear |
+//! | 1 | p; for write and show the boat |
 //! | 2 | n, the number of points that follow |
-//! | 3 | how many symbols follow the points: the word; for encode the message |
+//! | 3 | how many symbols follow the points: the word; for encode and read the message |
 //! | 4, 5, 6 | k, m, l |
 //! | 7 | r, of a given note |
 //! | 8 | t |
 //! | 9 | turn, turn in place, finish: 1 if they take the kept note, 0 if the note p, n, k, m, l, r given here |
-//! | 10, 11 | the allowance, low byte first; for change the place in the rows |
-//! | 12, 13 | a length, low byte first: encode's word, list's working room, else the rows lent; the bytes of a program's text, at most 512 |
-//! | 14, 15 | a second length: finish's curve, list's messages |
+//! | 10, 11 | the allowance, low byte first; for change the place in the rows; for write and show the day |
+//! | 12, 13 | a length, low byte first: encode's word, the working room of list and hear, write's message, show's text, else the rows lent |
+//! | | for program the bytes of its text, at most 512 |
+//! | 14, 15 | a second length: finish's curve, list's messages; for write and show the minute |
 //! | 16 | for change, the byte to write |
 //! | 17 to 23 | zero |
 //!
-//! After the header of encode, start and list come the points, then the symbols; after that of program its text; after
-//! the others nothing. Encode's word, finish's curve, list's working room and messages are full of 195 before the call.
-//! Start first fills all kept rows with 195. It, turn, turn in place and finish are lent the first bytes of the kept rows.
-//! The note that start, turn and turn in place hand back is kept, whatever the number. Change writes one byte.
+//! After the header of encode, start, list and hear come the points, then the symbols; after that of read the message;
+//! after that of program its text; after the others nothing. Encode's word, finish's curve, the working room of list and
+//! hear, list's messages, write's message and show's text are full of 195 before the call. Start first fills all kept
+//! rows with 195. It, turn, turn in place and finish are lent the first bytes of the kept rows. The note that start, turn
+//! and turn in place hand back is kept, whatever the number. Change writes one byte.
 //!
 //! `stdout` has one line for each record but change, words separated by one space, numbers decimal:
 //!
@@ -37,11 +39,16 @@
 //! finish NUMBER weight W height H curve SUM
 //! list NUMBER count C updates U weight W room SUM messages B B B ...
 //! program LENGTH
+//! write NUMBER message B B B ...
+//! read NUMBER departure BOAT DAY MINUTE
+//! show NUMBER text B B B ...
+//! hear NUMBER count C departure BOAT DAY MINUTE room SUM
 //! ```
 //!
-//! B stands for every byte lent; with none the line ends before it. After the line of program come LENGTH bytes: what
-//! `listing` prints for the text. SUM goes over every byte lent: from s = 0, for each byte b in order,
-//! s = (257 s + b + 1) mod 4294967291.
+//! Of hear C is 0 for none, 1 for one, 2 for several, and the departure is zeros where there is not one. Beside another
+//! number than 0 all of them are zeros. B stands for every byte lent; with none the line ends before it. After the line of
+//! program come LENGTH bytes: what `listing` prints for the text. SUM goes over every byte lent: from s = 0, for each byte
+//! b in order, s = (257 s + b + 1) mod 4294967291.
 
 mod line;
 mod record;
@@ -97,7 +104,7 @@ mod tests {
     /// What stands in the README: the seed and the count of the files that are shipped.
     const SHIPPED: (u64, usize) = (1, 340);
 
-    /// The job with its number; the late 11 is told from the other by its updates.
+    /// The job with its number; the late 11 is told from the other by its updates, what is heard by its count.
     fn outcome(line: &str) -> Option<String> {
         let words: Vec<&str> = line.split(' ').collect();
         match words.as_slice() {
@@ -106,6 +113,7 @@ mod tests {
             {
                 Some(format!("{} late 11", words[0]))
             }
+            ["hear", "0", "count", count, ..] => Some(format!("hear 0 count {count}")),
             ["program", _] => None,
             [job, number, ..] => Some(format!("{job} {number}")),
             [answer] => answer
@@ -120,7 +128,7 @@ mod tests {
         let (seed, count) = SHIPPED;
         let printed = String::from_utf8(files(seed, count).1).unwrap();
         let met: BTreeSet<String> = printed.lines().filter_map(outcome).collect();
-        let all: [(&str, &[u8]); 7] = [
+        let all: [(&str, &[u8]); 11] = [
             ("encode", &[0, 1, 2, 4, 6, 7, 9]),
             ("start", &[0, 1, 2, 3, 4, 5, 6, 7, 9]),
             ("turn", &[0, 9, 10, 11]),
@@ -128,13 +136,18 @@ mod tests {
             ("finish", &[0, 9, 10, 11, 12]),
             ("list", &[0, 1, 2, 3, 4, 5, 6, 7, 8, 9, 13]),
             ("program", &[0, 1, 2, 3, 4, 5, 6, 7, 8, 13, 14]),
+            ("write", &[0, 9, 15]),
+            ("read", &[0, 15]),
+            ("show", &[0, 9, 15]),
+            ("hear", &[2, 3, 4, 5, 6, 7, 8, 9, 13, 15]),
         ];
         let numbers = all.iter().flat_map(|(job, numbers)| {
             let numbers = numbers.iter();
             numbers.map(move |number| format!("{job} {number}"))
         });
         let late = ["turn", "turn_in_place"].map(|job| format!("{job} late 11"));
-        assert_eq!(met, numbers.chain(late).collect());
+        let heard = [0, 1, 2].map(|count| format!("hear 0 count {count}"));
+        assert_eq!(met, numbers.chain(late).chain(heard).collect());
     }
 
     #[test]

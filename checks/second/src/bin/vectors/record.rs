@@ -1,7 +1,7 @@
 //! A call as a record.
 
 use second::cases::Call;
-use second::{Note, Request};
+use second::{Departure, Note, Request};
 
 const HEADER: usize = 24;
 
@@ -17,38 +17,63 @@ pub fn record(call: &Call) -> Vec<u8> {
             points,
             message,
             word,
-        } => Record::new(1)
-            .place(1, *p)
-            .symbols(points, message)
-            .number(12, *word),
+        } => encode(*p, points, message, *word),
         Call::Start { request, rows } => Record::new(2).request(request).number(12, *rows),
         Call::Turn {
             in_place,
             note,
             rows,
             allowance,
-        } => Record::new(if *in_place { 4 } else { 3 })
-            .note(*note)
-            .number(10, usize::from(*allowance))
-            .number(12, *rows),
-        Call::Finish { note, rows, curve } => Record::new(5)
-            .note(*note)
-            .number(12, *rows)
-            .number(14, *curve),
+        } => turn(*in_place, *note, *rows, *allowance),
+        Call::Finish { note, rows, curve } => Record::new(5).note(*note).lengths(*rows, *curve),
         Call::List {
             request,
             t,
             room,
             messages,
-        } => Record::new(6)
-            .request(request)
-            .place(8, *t)
-            .number(12, *room)
-            .number(14, *messages),
+        } => list(request, *t, *room, *messages),
         Call::Program { text } => Record::new(7).number(12, text.len()).followed_by(text),
         Call::Change { place, byte } => Record::new(8).number(10, *place).place(16, *byte),
+        Call::Write { departure, message } => departs(9, *departure, *message),
+        Call::Read { message } => Record::new(10).symbols(&[], message),
+        Call::Show { departure, text } => departs(11, *departure, *text),
+        Call::Hear {
+            points,
+            word,
+            m,
+            l,
+            t,
+            room,
+        } => hear(points, word, [*m, *l, *t], *room),
     };
     [header.as_slice(), &bytes].concat()
+}
+
+fn encode(p: u8, points: &[u8], message: &[u8], word: usize) -> Record {
+    let record = Record::new(1).place(1, p);
+    record.symbols(points, message).number(12, word)
+}
+
+fn turn(in_place: bool, note: Option<Note>, rows: usize, allowance: u16) -> Record {
+    let record = Record::new(if in_place { 4 } else { 3 }).note(note);
+    record.number(10, allowance.into()).number(12, rows)
+}
+
+fn list(request: &Request, t: u8, room: usize, messages: usize) -> Record {
+    let record = Record::new(6).request(request).place(8, t);
+    record.lengths(room, messages)
+}
+
+/// Write and show are given the same.
+fn departs(job: u8, departure: Departure, lent: usize) -> Record {
+    let Departure { boat, day, minute } = departure;
+    let record = Record::new(job).place(1, boat).number(12, lent);
+    record.number(10, day.into()).number(14, minute.into())
+}
+
+fn hear(points: &[u8], word: &[u8], [m, l, t]: [u8; 3], room: usize) -> Record {
+    let record = Record::new(12).symbols(points, word).number(12, room);
+    record.place(5, m).place(6, l).place(8, t)
 }
 
 impl Record {
@@ -70,6 +95,10 @@ impl Record {
         let number = u16::try_from(number).expect("two bytes hold it");
         self.header[at..at + 2].copy_from_slice(&number.to_le_bytes());
         self
+    }
+
+    fn lengths(self, first: usize, second: usize) -> Record {
+        self.number(12, first).number(14, second)
     }
 
     fn followed_by(mut self, bytes: &[u8]) -> Record {
