@@ -102,6 +102,27 @@ fn two_near_are_several_whatever_they_spell() {
     assert_eq!(heard(&halves(&other, &another), 1, 2, 11), Heard::Several);
 }
 
+/// Four departures of which any two have the same symbols at five of the points 1 to 30: each agrees at fifteen.
+#[test]
+fn four_near_are_several() {
+    let points: Vec<u8> = (1..DEPARTURE_FIELD).collect();
+    let departures = [(0, 0), (30, 1), (18, 3), (28, 13)];
+    let words = departures.map(|(boat, minute)| {
+        let day = 0;
+        sent(&points, &message(Departure { boat, day, minute }))
+    });
+    let shared = (0..points.len()).map(|place| {
+        let symbols = words.each_ref().map(|word| word[place]);
+        let twice = |symbol: &u8| symbols.iter().filter(|&other| other == symbol).count() == 2;
+        symbols.into_iter().find(twice).unwrap()
+    });
+    let word: Vec<u8> = shared.collect();
+    assert!(words.iter().all(|sent| agreement(sent, &word) == 15));
+    let hear = |t| hear(&points, &word, 2, 4, t, &mut vec![FILL; WORKING_ROOM]);
+    assert_eq!(hear(15), Heard::Several);
+    assert_eq!(hear(16), Heard::None);
+}
+
 #[test]
 fn a_message_alone_that_is_no_departure_is_15() {
     let mut word = sent(&all_points(), &NO_DEPARTURE);
