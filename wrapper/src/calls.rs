@@ -2,10 +2,13 @@
 //! null, and its length. What is lent as `&mut` overlaps nothing else; two that are only read may be the same bytes,
 //! which no call can tell. The functions are proved to stay within what they are lent.
 
+use crate::departures::Departure;
 use crate::jobs::Request;
 
 pub const NOTE_BYTES: usize = 6;
 pub const BACK_BYTES: usize = 5;
+pub const DEPARTURE_BYTES: usize = 5;
+pub const HEARD_BYTES: usize = 6;
 
 extern "C" {
     fn pluck_encode(
@@ -32,6 +35,21 @@ extern "C" {
         p: u8, points: *const u8, points_len: usize, word: *const u8, word_len: usize, k: u8,
         m: u8, l: u8, t: u8, room: *mut u8, room_len: usize, messages: *mut u8,
         messages_len: usize, back: *mut u8, back_len: usize,
+    ) -> u8;
+
+    fn pluck_write_departure(
+        boat: u8, day: u16, minute: u16, message: *mut u8, message_len: usize,
+    ) -> u8;
+
+    fn pluck_read_departure(
+        message: *const u8, message_len: usize, departure: *mut u8, departure_len: usize,
+    ) -> u8;
+
+    fn pluck_show_departure(boat: u8, day: u16, minute: u16, text: *mut u8, text_len: usize) -> u8;
+
+    fn pluck_hear(
+        points: *const u8, points_len: usize, word: *const u8, word_len: usize, m: u8, l: u8,
+        t: u8, room: *mut u8, room_len: usize, heard: *mut u8, heard_len: usize,
     ) -> u8;
 }
 
@@ -124,6 +142,47 @@ pub fn list(
             messages.len(),
             back.as_mut_ptr(),
             back.len(),
+        )
+    }
+}
+
+pub fn write_departure(departure: Departure, message: &mut [u8]) -> u8 {
+    let Departure { boat, day, minute } = departure;
+    unsafe { pluck_write_departure(boat, day, minute, message.as_mut_ptr(), message.len()) }
+}
+
+pub fn read_departure(message: &[u8], departure: &mut [u8; DEPARTURE_BYTES]) -> u8 {
+    unsafe {
+        pluck_read_departure(
+            message.as_ptr(),
+            message.len(),
+            departure.as_mut_ptr(),
+            departure.len(),
+        )
+    }
+}
+
+pub fn show_departure(departure: Departure, text: &mut [u8]) -> u8 {
+    let Departure { boat, day, minute } = departure;
+    unsafe { pluck_show_departure(boat, day, minute, text.as_mut_ptr(), text.len()) }
+}
+
+pub fn hear(
+    points: &[u8], word: &[u8], m: u8, l: u8, t: u8, room: &mut [u8], heard: &mut [u8; HEARD_BYTES],
+) -> u8 {
+    unsafe {
+        pluck_hear(
+            points.as_ptr(),
+            points.len(),
+            word.as_ptr(),
+            word.len(),
+            m,
+            l,
+            t,
+            room.as_mut_ptr(),
+            room.len(),
+            heard.as_mut_ptr(),
+            heard.len(),
         )
     }
 }

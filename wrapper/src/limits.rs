@@ -24,7 +24,7 @@ pub const CURVE_MOST: usize = curve_bytes(FIELD_MOST, SYMBOLS_MOST, MULTIPLICITY
 /// The largest rows.
 pub const ROWS_MOST: usize = rows_bytes(FIELD_MOST, SYMBOLS_MOST, MULTIPLICITY_MOST, HEIGHT_MOST);
 
-/// The working room of a list.
+/// The working room of a list, and of hear.
 pub const WORKING_ROOM: usize = 32_768;
 
 /// The most messages.
@@ -35,3 +35,21 @@ pub const UPDATES_MOST: u16 = 3_886;
 
 /// The largest allowance.
 pub const ALLOWANCE_MOST: u16 = 65_535;
+
+/// The field size of a departure's message.
+pub const DEPARTURE_FIELD: u8 = 31;
+
+/// The symbols of a departure's message.
+pub const DEPARTURE_SYMBOLS: usize = 6;
+
+/// The greatest boat.
+pub const BOAT_MOST: u8 = 30;
+
+/// The greatest service day.
+pub const DAY_MOST: u16 = 960;
+
+/// The greatest minute of a service day.
+pub const MINUTE_MOST: u16 = 1_799;
+
+/// The time that a departure prints.
+pub const TIME_BYTES: usize = 5;

@@ -20,13 +20,14 @@ pub enum Refusal {
     Rows = 11,
     Early = 12,
     Unvouched = 13,
+    Departure = 15,
 }
 
 /// `Ok` is number 0.
 pub type Outcome = Result<(), Refusal>;
 
 impl Refusal {
-    pub const ALL: [Refusal; 13] = [
+    pub const ALL: [Refusal; 14] = [
         Refusal::Field,
         Refusal::Count,
         Refusal::Length,
@@ -40,6 +41,7 @@ impl Refusal {
         Refusal::Rows,
         Refusal::Early,
         Refusal::Unvouched,
+        Refusal::Departure,
     ];
 
     pub fn number(self) -> u8 {
@@ -61,6 +63,9 @@ impl Refusal {
             Refusal::Rows => "the rows are not as a turn leaves them",
             Refusal::Early => "finish asked with r below l+1",
             Refusal::Unvouched => "m·t is not above the curve's weight",
+            Refusal::Departure => {
+                "a boat, day or minute is out of its range, or a message is no departure"
+            }
         }
     }
 }
@@ -75,8 +80,10 @@ impl Error for Refusal {}
 
 /// The outcome that a number of the table stands for. The jobs are proved to give no other.
 pub(crate) fn outcome(number: u8) -> Outcome {
-    let Some(place) = usize::from(number).checked_sub(1) else {
+    if number == 0 {
         return Ok(());
-    };
-    Err(Refusal::ALL[place])
+    }
+    let mut all = Refusal::ALL.into_iter();
+    let refusal = all.find(|refusal| refusal.number() == number);
+    Err(refusal.expect("a number of the table"))
 }

@@ -1,9 +1,10 @@
-//! The figures of docs/RULES.md, field 7 throughout.
+//! The figures of docs/RULES.md. Field 7, but for the departures.
 
 mod common;
 
 use common::{started, EXAMPLE_19, POINTS, WORD};
 use pluck::{encode, finish, list, start, Near, Note, Refusal, Request};
+use pluck::{read_departure, show_departure, write_departure, Departure};
 use pluck::{ALLOWANCE_MOST, MESSAGES_MOST, WORKING_ROOM};
 
 fn request(word: &[u8], k: u8, m: u8, l: u8) -> Request<'_> {
@@ -186,4 +187,48 @@ fn the_numbers_of_the_figures() {
     assert_eq!(outcome(7, &[6, 2, 4, 4, 4, 2], 3, 2, 3, 4), Ok(()));
     let seven = outcome(7, &[7, 2, 4, 4, 4, 2], 3, 2, 3, 4);
     assert_eq!(seven, Err(Refusal::Symbol));
+}
+
+/// The last three symbols of a minute and the time that it prints, which no boat and no day changes.
+fn assert_minute(minute: u16, digits: [u8; 3], time: &str) {
+    for boat in 0..=30 {
+        for day in 0..=960 {
+            let departure = Departure { boat, day, minute };
+            let (mut message, mut text) = ([99; 6], [99; 5]);
+            assert_eq!(write_departure(departure, &mut message), Ok(()));
+            assert_eq!(show_departure(departure, &mut text), Ok(()));
+            assert_eq!((&message[3..], &text[..]), (&digits[..], time.as_bytes()));
+        }
+    }
+}
+
+#[test]
+fn the_minutes_1455_and_1799() {
+    assert_minute(1_455, [1, 15, 29], "24:15");
+    assert_minute(1_799, [1, 27, 1], "29:59");
+}
+
+#[test]
+fn the_last_departure_and_those_past_it() {
+    let outcomes = |boat, day, minute| {
+        let departure = Departure { boat, day, minute };
+        let written = write_departure(departure, &mut [99; 6]);
+        (written, show_departure(departure, &mut [99; 5]))
+    };
+    let refused = (Err(Refusal::Departure), Err(Refusal::Departure));
+    assert_eq!(outcomes(30, 960, 1_799), (Ok(()), Ok(())));
+    assert_eq!(outcomes(31, 960, 1_799), refused);
+    assert_eq!(outcomes(30, 961, 1_799), refused);
+    assert_eq!(outcomes(30, 960, 1_800), refused);
+}
+
+#[test]
+fn the_message_of_the_last_minute_and_those_that_are_no_departure() {
+    let (boat, day, minute) = (7, 100, 1_799);
+    let last = Departure { boat, day, minute };
+    let refused = Err(Refusal::Departure);
+    assert_eq!(read_departure(&[7, 3, 7, 1, 27, 1]), Ok(last));
+    assert_eq!(read_departure(&[7, 3, 7, 1, 27, 2]), refused);
+    assert_eq!(read_departure(&[7, 3, 7, 1, 15, 31]), refused);
+    assert_eq!(read_departure(&[7, 3, 7, 1, 15]), refused);
 }

@@ -1,4 +1,6 @@
-//! What stands here and in crates/boards/include/pluck.h too: the version and the limits.
+//! What stands here and in crates/boards/include/pluck.h too: the version, the limits and the numbers.
+
+use pluck::Refusal;
 
 const HEADER: &str = include_str!("../../crates/boards/include/pluck.h");
 
@@ -34,8 +36,38 @@ fn the_limits_are_those_of_the_header() {
         ("PLUCK_MESSAGES_MOST", pluck::MESSAGES_MOST),
         ("PLUCK_UPDATES_MOST", pluck::UPDATES_MOST.into()),
         ("PLUCK_ALLOWANCE_MOST", pluck::ALLOWANCE_MOST.into()),
+        ("PLUCK_DEPARTURE_FIELD", pluck::DEPARTURE_FIELD.into()),
+        ("PLUCK_DEPARTURE_SYMBOLS", pluck::DEPARTURE_SYMBOLS),
+        ("PLUCK_BOAT_MOST", pluck::BOAT_MOST.into()),
+        ("PLUCK_DAY_MOST", pluck::DAY_MOST.into()),
+        ("PLUCK_MINUTE_MOST", pluck::MINUTE_MOST.into()),
+        ("PLUCK_TIME_BYTES", pluck::TIME_BYTES),
     ];
     for (name, limit) in limits {
         assert_eq!(defined(name), limit.to_string(), "{name}");
     }
+}
+
+/// The header's enum of numbers: each name with its number.
+fn numbers() -> Vec<(&'static str, &'static str)> {
+    let lines = HEADER.lines().filter_map(|line| {
+        let (name, number) = line.trim().split_once(" = ")?;
+        let number = number.split([',', ' ']).next()?;
+        let is_one = name.starts_with("PLUCK_") && number.parse::<u8>().is_ok();
+        is_one.then_some((name, number))
+    });
+    lines.collect()
+}
+
+#[test]
+fn the_numbers_are_those_of_the_header() {
+    let mut known = vec![("PLUCK_DONE".to_string(), "0".to_string())];
+    known.extend(Refusal::ALL.map(|refusal| {
+        let name = format!("PLUCK_{refusal:?}").to_uppercase();
+        (name, refusal.number().to_string())
+    }));
+    for (name, number) in &known {
+        assert!(numbers().contains(&(name, number)), "{name} = {number}");
+    }
+    assert_eq!(numbers().len(), known.len());
 }

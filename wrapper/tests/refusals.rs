@@ -198,7 +198,7 @@ fn a_refusal_says_its_number_and_its_meaning() {
         .iter()
         .map(|refusal| refusal.number())
         .collect();
-    assert_eq!(numbers, (1..=13).collect::<Vec<u8>>());
+    assert_eq!(numbers, (1..=13).chain([15]).collect::<Vec<u8>>());
     let short = Refusal::Short.to_string();
     assert_eq!(short, "number 9: a lent buffer is too short");
 }
