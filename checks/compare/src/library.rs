@@ -2,7 +2,7 @@
 
 use pluck::Outcome;
 use second::cases::Jobs;
-use second::{Listed, Note, Request};
+use second::{Departure, Heard, Listed, Note, Request};
 use std::io::Write;
 use std::path::PathBuf;
 use std::process::{Command, Stdio};
@@ -51,6 +51,16 @@ fn handed_back(note: &pluck::Note) -> Note {
     Note { p, n, k, m, l, r }
 }
 
+fn sent(departure: Departure) -> pluck::Departure {
+    let Departure { boat, day, minute } = departure;
+    pluck::Departure { boat, day, minute }
+}
+
+fn received(departure: pluck::Departure) -> Departure {
+    let pluck::Departure { boat, day, minute } = departure;
+    Departure { boat, day, minute }
+}
+
 impl Jobs for Library {
     fn encode(&self, p: u8, points: &[u8], message: &[u8], word: &mut [u8]) -> u8 {
         number(pluck::encode(p, points, message, word))
@@ -90,5 +100,29 @@ impl Jobs for Library {
         let output = listing.wait_with_output().expect("listing ends");
         assert!(output.status.success(), "listing: {}", output.status);
         output.stdout
+    }
+
+    fn write(&self, departure: Departure, message: &mut [u8]) -> u8 {
+        number(pluck::write_departure(sent(departure), message))
+    }
+
+    fn read(&self, message: &[u8]) -> (u8, Departure) {
+        match pluck::read_departure(message) {
+            Ok(departure) => (0, received(departure)),
+            Err(refusal) => (refusal.number(), Departure::default()),
+        }
+    }
+
+    fn show(&self, departure: Departure, text: &mut [u8]) -> u8 {
+        number(pluck::show_departure(sent(departure), text))
+    }
+
+    fn hear(&self, points: &[u8], word: &[u8], m: u8, l: u8, t: u8, room: &mut [u8]) -> Heard {
+        match pluck::hear(points, word, m, l, t, room) {
+            Ok(pluck::Heard::None) => Heard::None,
+            Ok(pluck::Heard::One(departure)) => Heard::One(received(departure)),
+            Ok(pluck::Heard::Several) => Heard::Several,
+            Err(refusal) => Heard::Refused(refusal.number()),
+        }
     }
 }

@@ -2,15 +2,17 @@
 //! their answers.
 //!
 //! `compare SEED [COUNT]` goes through COUNT sessions, 20,000 if none is given, in each of which every job is called at least once, on a word of
-//! its own, and prints what was compared as Markdown. At the first difference it prints the whole case and ends with
-//! status 1.
+//! its own, and prints what was compared as Markdown. `compare departures` goes through every departure that there is. At
+//! the first difference the whole case is printed, and the status is 1.
 
+mod departures;
 mod library;
 mod report;
 mod tally;
 
 use library::Library;
 use second::cases::{Answer, Board, Call, Case, Cases, Jobs, Scale};
+use second::limits::BOAT_MOST;
 use second::Note;
 use std::process::ExitCode;
 use std::time::Instant;
@@ -56,18 +58,45 @@ fn given(board: &Board<impl Jobs>, call: &Call) -> (Note, Vec<u8>) {
     }
 }
 
-fn arguments() -> Option<(u64, usize)> {
+enum Asked {
+    Sessions { seed: u64, count: usize },
+    Departures,
+}
+
+fn arguments() -> Option<Asked> {
     let given: Vec<String> = std::env::args().skip(1).collect();
-    match given.as_slice() {
-        [seed] => Some((seed.parse().ok()?, DEFAULT_COUNT)),
-        [seed, count] => Some((seed.parse().ok()?, count.parse().ok()?)),
-        _ => None,
+    let given: Vec<&str> = given.iter().map(String::as_str).collect();
+    let (seed, count) = match given[..] {
+        ["departures"] => return Some(Asked::Departures),
+        [seed] => (seed.parse().ok()?, DEFAULT_COUNT),
+        [seed, count] => (seed.parse().ok()?, count.parse().ok()?),
+        _ => return None,
+    };
+    Some(Asked::Sessions { seed, count })
+}
+
+/// What is printed: the tables, or as the error the first case that differs.
+fn run(asked: Asked, library: Library) -> Result<String, String> {
+    let begun = Instant::now();
+    let seconds = || begun.elapsed().as_secs();
+    match asked {
+        Asked::Sessions { seed, count } => {
+            let tally =
+                compare(seed, count, library).map_err(|found| report::difference(&found))?;
+            let head = format!("Seed {seed}, {count} sessions, {} seconds.", seconds());
+            Ok(format!("{head}\n\n{}", report::report(&tally)))
+        }
+        Asked::Departures => {
+            let lines = departures::compare(&library, 0..=BOAT_MOST)?;
+            let head = format!("Every departure, {} seconds.", seconds());
+            Ok(format!("{head}\n\n{}", report::departures(&lines)))
+        }
     }
 }
 
 fn main() -> ExitCode {
-    let Some((seed, count)) = arguments() else {
-        eprintln!("usage: compare SEED [COUNT]");
+    let Some(asked) = arguments() else {
+        eprintln!("usage: compare SEED [COUNT], or compare departures");
         return ExitCode::FAILURE;
     };
     let library = match Library::new() {
@@ -77,16 +106,13 @@ fn main() -> ExitCode {
             return ExitCode::FAILURE;
         }
     };
-    let begun = Instant::now();
-    match compare(seed, count, library) {
-        Ok(tally) => {
-            let seconds = begun.elapsed().as_secs();
-            println!("Seed {seed}, {count} sessions, {seconds} seconds.\n");
-            print!("{}", report::report(&tally));
+    match run(asked, library) {
+        Ok(tables) => {
+            print!("{tables}");
             ExitCode::SUCCESS
         }
         Err(difference) => {
-            print!("{}", report::difference(&difference));
+            print!("{difference}");
             ExitCode::FAILURE
         }
     }
@@ -96,7 +122,7 @@ fn main() -> ExitCode {
 mod tests {
     use super::*;
     use second::cases::Second;
-    use second::{Listed, Request};
+    use second::{Departure, Heard, Listed, Request};
     use tally::Job;
 
     /// The second program again, with one job that is wrong in one number or byte.
@@ -145,12 +171,36 @@ mod tests {
             self.spoil(Job::Program, &mut printed);
             printed
         }
+
+        fn write(&self, departure: Departure, message: &mut [u8]) -> u8 {
+            let number = Second.write(departure, message);
+            self.spoil(Job::Write, message);
+            number
+        }
+
+        fn read(&self, message: &[u8]) -> (u8, Departure) {
+            let (number, mut departure) = Second.read(message);
+            departure.minute ^= u16::from(self.0 == Job::Read);
+            (number, departure)
+        }
+
+        fn show(&self, departure: Departure, text: &mut [u8]) -> u8 {
+            let number = Second.show(departure, text);
+            self.spoil(Job::Show, text);
+            number
+        }
+
+        fn hear(&self, points: &[u8], word: &[u8], m: u8, l: u8, t: u8, room: &mut [u8]) -> Heard {
+            let heard = Second.hear(points, word, m, l, t, room);
+            self.spoil(Job::Hear, room);
+            heard
+        }
     }
 
     #[test]
     fn the_library_says_the_same() {
         let tally = compare(2, 60, Library::new().unwrap());
-        assert!(tally.is_ok_and(|tally| tally.calls() > 360));
+        assert!(tally.is_ok_and(|tally| tally.calls() > 600));
     }
 
     #[test]
@@ -165,6 +215,24 @@ mod tests {
         let tally = compare(3, 40, Second).ok().unwrap();
         for (job, name) in report::JOBS {
             assert!(tally.of(job).words >= 40, "{name}");
+        }
+    }
+    #[test]
+    fn every_departure_of_a_boat_goes_there_and_back() {
+        for boat in [0, BOAT_MOST] {
+            let lines = departures::compare(&Library::new().unwrap(), boat..=boat).unwrap();
+            let counts: Vec<[usize; 2]> =
+                lines.iter().map(|line| [line.done, line.refused]).collect();
+            let (all, past) = ([961 * 1_800, 0], [0, 225 + 64_575 + 63_736]);
+            let last = [1_800, 31 * 31 * 31 - 1_800];
+            assert_eq!(counts, [all, all, all, past, past, last]);
+        }
+    }
+
+    #[test]
+    fn a_wrong_departure_is_found() {
+        for job in [Job::Write, Job::Read, Job::Show] {
+            assert!(departures::compare(&Wrong(job), 0..=0).is_err());
         }
     }
 }

@@ -1,28 +1,33 @@
 //! What is printed, as Markdown.
 
+use crate::departures::Line;
 use crate::tally::{Job, JobTally, Tally, VALUES};
 use crate::Difference;
 
-pub const JOBS: [(Job, &str); 6] = [
+pub const JOBS: [(Job, &str); 10] = [
     (Job::Encode, "encode"),
     (Job::Start, "start"),
     (Job::Turn, "turn"),
     (Job::Finish, "finish"),
     (Job::List, "list"),
     (Job::Program, "program"),
+    (Job::Write, "write"),
+    (Job::Read, "read"),
+    (Job::Show, "show"),
+    (Job::Hear, "hear"),
 ];
 
 /// The tables of a run in which nothing differs.
 pub fn report(tally: &Tally) -> String {
     let calls = tally.calls();
-    let tables = [numbers(tally), values(tally), lists(tally)];
+    let tables = [numbers(tally), values(tally), lists(tally), heard(tally)];
     format!("Of {calls} calls 0 differ.\n\n{}", tables.join("\n"))
 }
 
 /// Calls and words of each job, and how often each number was given.
 fn numbers(tally: &Tally) -> String {
     let heads = ["job", "calls", "words"].map(String::from).into_iter();
-    let heads = heads.chain((0..=14).map(|number| number.to_string()));
+    let heads = heads.chain((0..=15).map(|number| number.to_string()));
     let mut table = head(heads.chain(["late 11".to_string()]).collect());
     for (job, name) in JOBS {
         let JobTally {
@@ -62,6 +67,30 @@ fn lists(tally: &Tally) -> String {
     let counts = tally.lists.iter().map(usize::to_string);
     let counts = ["lists".to_string()].into_iter().chain(counts);
     head(heads.collect()) + &row(counts.collect())
+}
+
+fn heard(tally: &Tally) -> String {
+    let heads = ["heard", "none", "one", "several"].map(String::from);
+    let counts = tally.heard.iter().map(usize::to_string);
+    let counts = ["words".to_string()].into_iter().chain(counts);
+    head(heads.to_vec()) + &row(counts.collect())
+}
+
+/// The table of a run through every departure in which nothing differs.
+pub fn departures(lines: &[Line]) -> String {
+    let calls: usize = lines.iter().map(|line| line.done + line.refused).sum();
+    let mut table = head(
+        ["job", "given", "calls", "0", "15"]
+            .map(String::from)
+            .to_vec(),
+    );
+    for line in lines {
+        let counts = [line.done + line.refused, line.done, line.refused];
+        let counts = counts.iter().map(usize::to_string);
+        let names = [line.job, line.given].map(String::from).into_iter();
+        table += &row(names.chain(counts).collect());
+    }
+    format!("Of {calls} calls 0 differ.\n\n{table}")
 }
 
 fn head(cells: Vec<String>) -> String {

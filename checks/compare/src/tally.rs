@@ -2,7 +2,7 @@
 
 use second::cases::{Answer, Call, Case};
 use second::limits::HEIGHT_MOST;
-use second::{Note, Request};
+use second::{Departure, Heard, Note, Request};
 use std::collections::BTreeSet;
 
 #[derive(Clone, Copy, PartialEq, Eq)]
@@ -13,32 +13,41 @@ pub enum Job {
     Finish,
     List,
     Program,
+    Write,
+    Read,
+    Show,
+    Hear,
 }
 
-/// The names of the values that a call is about, in the order of [`Values`].
-pub const VALUES: [&str; 6] = ["p", "n", "k", "m", "l", "t"];
+/// The names of the values that a call is about: first those of [`Numbers`], then a departure's.
+pub const VALUES: [&str; 9] = ["p", "n", "k", "m", "l", "t", "boat", "day", "minute"];
 
 /// None where the job has no such value.
-type Values = [Option<u8>; VALUES.len()];
+type Values = [Option<u16>; VALUES.len()];
+
+/// p, n, k, m, l and t, for the jobs on words.
+type Numbers = [Option<u8>; 6];
 
 #[derive(Default)]
 pub struct JobTally {
     pub calls: usize,
     pub words: usize,
-    pub numbers: [usize; 15],
+    pub numbers: [usize; 16],
     /// Of the calls with number 11, those that made updates.
     pub late: usize,
     /// The values met in calls that were answered with 0.
-    pub met: [BTreeSet<u8>; VALUES.len()],
+    pub met: [BTreeSet<u16>; VALUES.len()],
     /// Whether the last start gave a word that this job has not been called on.
     awaited: bool,
 }
 
 #[derive(Default)]
 pub struct Tally {
-    jobs: [JobTally; 6],
+    jobs: [JobTally; 10],
     /// Lists that were answered with 0, by the number of their messages.
     pub lists: [usize; HEIGHT_MOST as usize + 1],
+    /// Words that were heard with number 0: none, one, several.
+    pub heard: [usize; 3],
 }
 
 struct Seen {
@@ -62,12 +71,22 @@ impl Tally {
         if let Some(seen) = seen(case, note) {
             self.add(&seen);
         }
-        if let Answer::List {
-            listed: (0, count, ..),
-            ..
-        } = case.answer
-        {
-            self.lists[usize::from(count)] += 1;
+        match case.answer {
+            Answer::List {
+                listed: (0, count, ..),
+                ..
+            } => self.lists[usize::from(count)] += 1,
+            Answer::Hear { heard, .. } => self.count_heard(heard),
+            _ => {}
+        }
+    }
+
+    fn count_heard(&mut self, heard: Heard) {
+        match heard {
+            Heard::None => self.heard[0] += 1,
+            Heard::One(_) => self.heard[1] += 1,
+            Heard::Several => self.heard[2] += 1,
+            Heard::Refused(_) => {}
         }
     }
 
@@ -106,17 +125,53 @@ fn seen(case: &Case, note: Note) -> Option<Seen> {
         Answer::Finish { number, .. } => (Job::Finish, *number, 0),
         Answer::List { listed, .. } => (Job::List, listed.0, 0),
         Answer::Program { text } => (Job::Program, answer(text), 0),
+        Answer::Write { number, .. } => (Job::Write, *number, 0),
+        Answer::Read { number, .. } => (Job::Read, *number, 0),
+        Answer::Show { number, .. } => (Job::Show, *number, 0),
+        Answer::Hear { heard, .. } => (Job::Hear, refused(*heard), 0),
         Answer::Change => return None,
     };
     Some(Seen {
         job,
         number,
         updates,
-        values: values(&case.call, note),
+        values: values(case, note),
     })
 }
 
-fn values(call: &Call, note: Note) -> Values {
+fn refused(heard: Heard) -> u8 {
+    match heard {
+        Heard::Refused(number) => number,
+        _ => 0,
+    }
+}
+
+fn values(case: &Case, note: Note) -> Values {
+    let [p, n, k, m, l, t] = numbers(&case.call, note).map(|number| number.map(u16::from));
+    let departure = departure(case);
+    let boat = departure.map(|departure| departure.boat.into());
+    let day = departure.map(|departure| departure.day);
+    let minute = departure.map(|departure| departure.minute);
+    [p, n, k, m, l, t, boat, day, minute]
+}
+
+/// The departure that was given, read or heard.
+fn departure(case: &Case) -> Option<Departure> {
+    match (&case.call, &case.answer) {
+        (Call::Write { departure, .. } | Call::Show { departure, .. }, _) => Some(*departure),
+        (_, Answer::Read { departure, .. }) => Some(*departure),
+        (
+            _,
+            Answer::Hear {
+                heard: Heard::One(departure),
+                ..
+            },
+        ) => Some(*departure),
+        _ => None,
+    }
+}
+
+fn numbers(call: &Call, note: Note) -> Numbers {
     match call {
         Call::Encode {
             p, points, message, ..
@@ -131,11 +186,19 @@ fn values(call: &Call, note: Note) -> Values {
         }
         Call::List { request, t, .. } => asked(request, Some(*t)),
         Call::Program { text } => read(&String::from_utf8_lossy(text)),
-        Call::Change { .. } => Values::default(),
+        Call::Hear {
+            points, m, l, t, ..
+        } => {
+            let n = points.len() as u8;
+            [None, Some(n), None, Some(*m), Some(*l), Some(*t)]
+        }
+        Call::Write { .. } | Call::Read { .. } | Call::Show { .. } | Call::Change { .. } => {
+            Numbers::default()
+        }
     }
 }
 
-fn asked(request: &Request, t: Option<u8>) -> Values {
+fn asked(request: &Request, t: Option<u8>) -> Numbers {
     let Request {
         p, points, k, m, l, ..
     } = request;
@@ -143,15 +206,15 @@ fn asked(request: &Request, t: Option<u8>) -> Values {
     [Some(*p), Some(n), Some(*k), Some(*m), Some(*l), t]
 }
 
-/// The values in a text that the program can read.
-fn read(text: &str) -> Values {
+/// The numbers in a text that the program can read.
+fn read(text: &str) -> Numbers {
     let lines: Vec<&str> = text
         .lines()
         .filter_map(|line| line.split_once('='))
         .map(|(_, value)| value)
         .collect();
     let [p, k, m, l, t, points, _] = lines[..] else {
-        return Values::default();
+        return Numbers::default();
     };
     let number = |digits: &str| digits.parse().ok();
     let m = number(m).or(Some(1));
