@@ -19,7 +19,7 @@ use Rattle.rows.specs.declared.Finished.{Finished}
 use Rattle.rows.proofs.Placing.{curve-some, rows-some}
 use Rattle.near.specs.Job.{HasListed, listTable}
 use Rattle.near.specs.declared.Near.{Near}
-use Rattle.departures.specs.Jobs.{readTable, HasRead}
+use Rattle.departures.specs.Jobs.{readTable, ReadsDeparture}
 use Rattle.departures.specs.Hearing.{hearTable, HasHeard}
 use Rattle.departures.specs.declared.Reading.{Reading}
 use Rattle.departures.specs.declared.Heard.{Heard}
@@ -214,7 +214,7 @@ list-done {p} {points} {word} {k} {m} {l} {t} {room} {messages = messages} {back
 
 -- read
 
-pub read-refused : {message departure departure′ : List ℕ} {job : Reading} → HasRead message job → (job .number ≡ 0 → ⊥)
+pub read-refused : {message departure departure′ : List ℕ} {job : Reading} → ReadsDeparture message job → (job .number ≡ 0 → ⊥)
     → Cleared departureBytes departure departure′
     → ReadCall message departure departure′ (job .number)
 read-refused {message} {departure} {job = job} has n c =
@@ -224,7 +224,7 @@ read-refused {message} {departure} {job = job} has n c =
       refused = λ _. c;
     }
 
-pub read-short : {message departure : List ℕ} {job : Reading} → HasRead message job → job .number ≡ 0 → length departure < departureBytes
+pub read-short : {message departure : List ℕ} {job : Reading} → ReadsDeparture message job → job .number ≡ 0 → length departure < departureBytes
     → ReadCall message departure departure 9
 read-short {message} {departure} has z short =
     record {
@@ -233,7 +233,7 @@ read-short {message} {departure} has z short =
       refused = λ n. cleared-none short;
     }
 
-pub read-done : {message departure departure′ : List ℕ} {job : Reading} → HasRead message job → job .number ≡ 0
+pub read-done : {message departure departure′ : List ℕ} {job : Reading} → ReadsDeparture message job → job .number ≡ 0
     → departureBytes ≤ length departure → departure′ ≡ departureInto (job .departure) departure
     → ReadCall message departure departure′ 0
 read-done {message} {departure} {job = job} has z long e =

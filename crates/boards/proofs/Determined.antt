@@ -8,7 +8,7 @@ use native.Mathlib.Decide.{ℕ-discrete}
 use Rattle.poly.proofs.TableLaws.{first-determined}
 use Rattle.rows.proofs.Determined.{start-determined, turn-determined, finish-determined}
 use Rattle.near.proofs.Determined.{list-determined}
-use Rattle.departures.proofs.Determined.{read-determined, heard-determined}
+use Rattle.departures.proofs.Determined.{reading-determined, heard-determined}
 use Rattle.boards.specs.Lent.{departureInto, backOfHear, heardInto}
 use Rattle.boards.specs.Lent.{noteInto, backOfTurn, backOfFinish, backOfList, backInto}
 use Rattle.boards.specs.Calls.{StartCall, TurnCall, FinishCall, ListCall, startCallTable, turnCallTable, finishCallTable, listCallTable}
@@ -101,7 +101,7 @@ read-call-determined {message} {departure} {a = a} {b} f g =
     (λ z.
     let (job, has, e, d) = f .done z in
     let (job′, has′, e′, d′) = g .done (sym same ∙ z) in
-    (same, d ∙ ap (λ j. departureInto (j .departure) departure) (read-determined has has′) ∙ sym d′))
+    (same, d ∙ ap (λ j. departureInto (j .departure) departure) (reading-determined has has′) ∙ sym d′))
     (λ n. (same, cleared-determined (f .refused n) (g .refused (λ e. n (same ∙ e)))))
 
 pub hear-call-determined : {points word : List ℕ} {m l t : ℕ} {room room₁ room₂ heard heard₁ heard₂ : List ℕ} {a b : ℕ}

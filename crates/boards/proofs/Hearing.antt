@@ -1,5 +1,5 @@
 -- The departure that was sent, on the bytes that C sees: where it agrees in t places or more, the one that is shown is that one.
-use mathlib.Core.Path.{_≡_, sym, subst}
+use mathlib.Core.Path.{sym, subst}
 use mathlib.Core.List.{List}
 use Prim.Native.Nat.{ℕ, _≤_}
 use native.Mathlib.Omega.{arith}

@@ -15,7 +15,7 @@ use Rattle.poly.specs.Limits.{workingRoom}
 use Rattle.poly.specs.Table.{Refusal, First, TooShort}
 use Rattle.rows.specs.Jobs.{requestTable}
 use Rattle.departures.specs.Departures.{departureField, departureSymbols}
-use Rattle.departures.specs.Jobs.{readTable, HasRead}
+use Rattle.departures.specs.Jobs.{readTable, ReadsDeparture}
 use Rattle.departures.specs.Hearing.{HasHeard}
 use Rattle.departures.specs.declared.Departure.{Departure}
 use Rattle.departures.specs.declared.Reading.{Reading}
@@ -29,7 +29,8 @@ readCallTable message departure = readTable message ++ record { number = 9; appl
 
 pub record ReadCall (message departure departure′ : List ℕ) (number : ℕ) : Type 0 where
   pub first : First (readCallTable message departure) number
-  pub done : number ≡ 0 → (job : Reading) × HasRead message job × (number ≡ job .number) × (departure′ ≡ departureInto (job .departure) departure)
+  pub done : number ≡ 0 → (job : Reading) × ReadsDeparture message job × (number ≡ job .number)
+      × (departure′ ≡ departureInto (job .departure) departure)
   pub refused : (number ≡ 0 → ⊥) → Cleared departureBytes departure departure′
 
 -- hear: its number is that of the entry, unless 13 comes, or 15

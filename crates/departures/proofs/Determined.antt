@@ -12,7 +12,7 @@ use Rattle.poly.proofs.BufferLaws.{untouched-unique, zeroed-unique}
 use Rattle.curves.proofs.Least.{weight-unique}
 use Rattle.near.proofs.Messages.{symbols-numbered}
 use Rattle.near.proofs.Lists.{list-unique}
-use Rattle.departures.specs.Jobs.{Puts, HasRead, readTable}
+use Rattle.departures.specs.Jobs.{Puts, ReadsDeparture, readTable}
 use Rattle.departures.specs.Hearing.{hearTable, departureTask, Says, AnswersBoard, HasHeard}
 use Rattle.departures.specs.Hearing.Says.{nothing, shows, strange, waits}
 use Rattle.departures.specs.declared.Departure.{Departure}
@@ -44,8 +44,8 @@ puts-determined {table} {text} {before} {after} {also} {x} {y} f g = (same, go (
             ∙ getD-take (length text) also q 0 h
 
 -- of the reader
-pub read-determined : {xs : List ℕ} {x y : Reading} → HasRead xs x → HasRead xs y → x ≡ y
-read-determined {xs} {x} {y} f g =
+pub reading-determined : {xs : List ℕ} {x y : Reading} → ReadsDeparture xs x → ReadsDeparture xs y → x ≡ y
+reading-determined {xs} {x} {y} f g =
     ap₂ (λ (n : ℕ) (d : Departure). record { number = n; departure = d }) same (go (ℕ-discrete (x .number) 0))
   where
     same : x .number ≡ y .number

@@ -6,7 +6,7 @@ use Prim.Native.Nat.{ℕ, _≤_}
 use native.Mathlib.Omega.{arith}
 use lib.ListN.{length, take}
 use Rattle.departures.specs.Departures.{InRange, IsDeparture, sixSymbols, departureOf, clock, departureSymbols, timeBytes}
-use Rattle.departures.specs.Jobs.{writeTable, showTable, Puts, HasRead}
+use Rattle.departures.specs.Jobs.{writeTable, showTable, Puts, ReadsDeparture}
 use Rattle.departures.specs.declared.Departure.{Departure}
 use Rattle.departures.specs.declared.Reading.{Reading}
 use Rattle.departures.proofs.DepartureLaws.{six-spell, six-departure, spelt-six, spelt-range, clock-once}
@@ -14,7 +14,7 @@ use Rattle.departures.proofs.Outcomes.{put-passed, read-passed}
 
 -- what was written is read as the departure that it was
 pub read-written : {d : Departure} (before : List ℕ) {after : List ℕ} {number : ℕ} {back : Reading}
-    → Puts (writeTable d before) (sixSymbols d) before after number → number ≡ 0 → HasRead (take departureSymbols after) back
+    → Puts (writeTable d before) (sixSymbols d) before after number → number ≡ 0 → ReadsDeparture (take departureSymbols after) back
     → back ≡ record { number = 0; departure = d }
 read-written {d} before {after} {back = back} wrote z has =
     ap₂ (λ (n : ℕ) (e : Departure). record { number = n; departure = e }) done (has .read done ∙ ap departureOf (wrote .front z) ∙ six-spell d)
@@ -24,7 +24,7 @@ read-written {d} before {after} {back = back} wrote z has =
         ⊎-elim (λ h. absurd (h .0 (rw (wrote .front z) (six-departure d (put-passed before (wrote .first) z .0))))) (λ h. h .1) (has .first)
 
 -- what was read is written as the six symbols that it was, where there is room for them
-pub write-read : {xs : List ℕ} {back : Reading} (before : List ℕ) {after : List ℕ} {number : ℕ} → HasRead xs back → back .number ≡ 0
+pub write-read : {xs : List ℕ} {back : Reading} (before : List ℕ) {after : List ℕ} {number : ℕ} → ReadsDeparture xs back → back .number ≡ 0
     → departureSymbols ≤ length before → Puts (writeTable (back .departure) before) (sixSymbols (back .departure)) before after number
     → (number ≡ 0) × (take departureSymbols after ≡ xs)
 write-read {xs} {back} before {after} {number} has z room wrote = (done, wrote .front done ∙ ap sixSymbols (has .read z) ∙ spelt-six (is .spelt))

@@ -11,7 +11,7 @@ use Rattle.poly.proofs.TableLaws.{Passed, narrower}
 use Rattle.near.specs.Job.{listTable, flat, Answers, HasListed}
 use Rattle.near.specs.declared.Near.{Near}
 use Rattle.departures.specs.Departures.{IsDeparture, departureOf, departureField, departureSymbols}
-use Rattle.departures.specs.Jobs.{HasRead}
+use Rattle.departures.specs.Jobs.{ReadsDeparture}
 use Rattle.departures.specs.Hearing.{hearTable, Says, AnswersBoard, HasHeard}
 use Rattle.departures.specs.Hearing.Says.{nothing, shows, strange, waits}
 use Rattle.departures.specs.declared.Departure.{Departure}
@@ -24,8 +24,8 @@ use Rattle.departures.proofs.Outcomes.{read-passed}
 pub data Counted (count : ℕ) (messages : List ℕ) : Heard → Type 0 where
   none : count ≡ 0 → Counted count messages None
   many : (count ≡ 0 → ⊥) → (count ≡ 1 → ⊥) → Counted count messages Several
-  one : count ≡ 1 → (r : Reading) → HasRead (take departureSymbols messages) r → r .number ≡ 0 → Counted count messages (One (r .departure))
-  other : count ≡ 1 → (r : Reading) → HasRead (take departureSymbols messages) r → (r .number ≡ 0 → ⊥)
+  one : count ≡ 1 → (r : Reading) → ReadsDeparture (take departureSymbols messages) r → r .number ≡ 0 → Counted count messages (One (r .departure))
+  other : count ≡ 1 → (r : Reading) → ReadsDeparture (take departureSymbols messages) r → (r .number ≡ 0 → ⊥)
       → Counted count messages (Refused (r .number))
 
 says-none : (list : List (List ℕ)) → length list ≡ 0 → Says list None
@@ -37,7 +37,7 @@ says-many [] some few = absurd (some refl)
 says-many (x ∷ []) some few = absurd (few refl)
 says-many (x ∷ y ∷ list) some few = waits x y list
 
-module _ (x : List ℕ) {xs : List ℕ} {r : Reading} (is : xs ≡ x) (h : HasRead xs r) where
+module _ (x : List ℕ) {xs : List ℕ} {r : Reading} (is : xs ≡ x) (h : ReadsDeparture xs r) where
   says-one : r .number ≡ 0 → Says (x ∷ []) (One (r .departure))
   says-one z =
       subst (λ (d : Departure). Says (x ∷ []) (One d)) (sym (h .read z ∙ ap departureOf is)) (shows x (rw is at (read-passed (h .first) z)))

@@ -4,7 +4,7 @@
 --   readTable xs              those of the reader
 --   Puts table text ..        what such a job leaves: the text at the front and the rest as it was, or every byte as it was
 --   zeroDeparture             the departure of zeros that a refused reader hands back
---   HasRead xs back           what the reader hands back
+--   ReadsDeparture xs back    what the reader hands back
 use mathlib.Core.Path.{_≡_}
 use mathlib.Core.List.{List, [], _∷_}
 use Prim.Native.Nat.{ℕ}
@@ -36,7 +36,7 @@ pub record Puts (table : List Refusal) (text before after : List ℕ) (number : 
 abbrev pub zeroDeparture : Departure
 zeroDeparture = record { boat = 0; day = 0; minute = 0 }
 
-pub record HasRead (xs : List ℕ) (back : Reading) : Type 0 where
+pub record ReadsDeparture (xs : List ℕ) (back : Reading) : Type 0 where
   pub first : First (readTable xs) (back .number)
   pub read : back .number ≡ 0 → back .departure ≡ departureOf xs
   pub refused : (back .number ≡ 0 → ⊥) → back .departure ≡ zeroDeparture

@@ -1,7 +1,7 @@
 // Departures as messages: a boat, a service day and a minute of it in six symbols, and the board's question which one was sent. The day ends
 // when the last boat ties up, so no minute is wrapped at 1,440.
 ghost use Rattle.departures.specs.Departures.{sixSymbols, clock};
-ghost use Rattle.departures.specs.Jobs.{writeTable, showTable, Puts, HasRead};
+ghost use Rattle.departures.specs.Jobs.{writeTable, showTable, Puts, ReadsDeparture};
 ghost use Rattle.departures.specs.Hearing.{HasHeard};
 use limits::DEPARTURE_FIELD;
 use limits::DEPARTURE_SYMBOLS;
@@ -46,7 +46,7 @@ pub fn write(departure: Departure, message: &mut [u8]) -> u8
 }
 
 pub fn read(message: &[u8]) -> Reading
-    ensures { λ back. ⌜ HasRead (now (message .entry)) back ⌝ }
+    ensures { λ back. ⌜ ReadsDeparture (now (message .entry)) back ⌝ }
 {
     let number = refusals::refuse_read(message);
     if number != 0 {
