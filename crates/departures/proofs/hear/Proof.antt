@@ -2,10 +2,11 @@
 use native.Mathlib.Omega.{arith}
 use mathlib.Core.Path.{_≡_, sym}
 use mathlib.Core.List.{List}
-use Prim.Native.Nat.{ℕ}
+use Prim.Native.Nat.{ℕ, _*_}
 use lib.ListN.{length, take}
 use lib.Seq.{length-take-le}
 use borrow.Author.Needs.{needs}
+use Rattle.poly.specs.Limits.{heightMost}
 use Rattle.near.specs.Job.{HasListed}
 use Rattle.near.specs.declared.Near.{Near}
 use Rattle.departures.specs.Departures.{departureField, departureSymbols}
@@ -51,9 +52,9 @@ array-share-prefix-messages c = search needs
 
 six-bytes : {points word room room′ messages : List ℕ} {m l t : ℕ} {near : Near}
     → HasListed departureField points word departureSymbols m l t room room′ lentMessages messages near
-    → length messages ≡ 48
-    → 6 ≡ length (take 6 messages)
-six-bytes {messages = messages} h e = sym (length-take-le 6 messages (omega arith))
+    → length messages ≡ heightMost * departureSymbols
+    → departureSymbols ≡ length (take departureSymbols messages)
+six-bytes {messages = messages} h e = sym (length-take-le departureSymbols messages (omega arith))
 
 slice-aggregate-read : tie.Need-slice-aggregate-read
 slice-aggregate-read c =
