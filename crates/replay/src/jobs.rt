@@ -1,6 +1,8 @@
 // One call to the library for each job, and the line that tells what came back.
 ghost use Rattle.rows.specs.Jobs.{HasTurned};
 use crate::printing;
+use departures::Departure;
+use departures::Heard;
 use rows::Note;
 use rows::Turned;
 
@@ -89,4 +91,50 @@ pub fn program(text: &[u8]) {
     printing::number(b"program", len as u64);
     printing::end();
     printing::text(&out[..len]);
+}
+
+pub fn write(departure: Departure, message: &mut [u8]) {
+    let number = departures::write(departure, message);
+    printing::byte(b"write", number);
+    printing::bytes(b" message", message);
+    printing::end();
+}
+
+pub fn read(message: &[u8]) {
+    let reading = departures::read(message);
+    let departure = reading.departure;
+    printing::byte(b"read", reading.number);
+    printing::departure(departure);
+    printing::end();
+}
+
+pub fn show(departure: Departure, text: &mut [u8]) {
+    let number = departures::show(departure, text);
+    printing::byte(b"show", number);
+    printing::bytes(b" text", text);
+    printing::end();
+}
+
+fn print_heard(number: u8, count: u8, departure: Departure) {
+    printing::byte(b"hear", number);
+    printing::byte(b" count", count);
+    printing::departure(departure);
+}
+
+// What was heard, in the numbers of the calls for C: zeros beside a refusal, and where there is not one departure.
+pub fn hear(points: &[u8], word: &[u8], m: u8, l: u8, t: u8, room: &mut [u8]) {
+    let heard = departures::hear(points, word, m, l, t, room);
+    let zeros = Departure {
+        boat: 0,
+        day: 0,
+        minute: 0,
+    };
+    match heard {
+        Heard::None => print_heard(0, 0, zeros),
+        Heard::One(departure) => print_heard(0, 1, departure),
+        Heard::Several => print_heard(0, 2, zeros),
+        Heard::Refused(number) => print_heard(number, 0, zeros),
+    }
+    printing::sum(b" room", room);
+    printing::end();
 }

@@ -4,6 +4,7 @@
 ghost use Prim.Native.Nat.{_≤_};
 ghost use lib.ListN.{length};
 use calls::Call;
+use departures::Departure;
 use rows::Note;
 
 mod calls; // calls.rt: the stored calls, read from standard input
@@ -90,6 +91,50 @@ fn change(at: u16, byte: u8, rows: &mut [u8])
     rows[at as usize] = byte;
 }
 
+fn write(departure: Departure, lent: u16) {
+    let mut message = calls::room();
+    let lent = lent as usize;
+    jobs::write(departure, &mut message[..lent]);
+}
+
+fn read(count: u8) {
+    let message = calls::symbols(count);
+    let count = count as usize;
+    jobs::read(&message[..count]);
+}
+
+fn show(departure: Departure, lent: u16) {
+    let mut text = calls::room();
+    let lent = lent as usize;
+    jobs::show(departure, &mut text[..lent]);
+}
+
+fn hear(n: u8, count: u8, m: u8, l: u8, t: u8, lent: u16) {
+    let points = calls::symbols(n);
+    let word = calls::symbols(count);
+    let mut room = calls::room();
+    let n = n as usize;
+    let count = count as usize;
+    let lent = lent as usize;
+    jobs::hear(&points[..n], &word[..count], m, l, t, &mut room[..lent]);
+}
+
+// Makes one call on departures.
+fn replay_departure(call: Call) {
+    let job = call.job;
+    let departure = Departure {
+        boat: call.p,
+        day: call.allowance,
+        minute: call.second,
+    };
+    match job {
+        9 => write(departure, call.lent),
+        10 => read(call.count),
+        11 => show(departure, call.lent),
+        _ => hear(call.n, call.count, call.m, call.l, call.t, call.lent),
+    }
+}
+
 // The note that a turn or a finish takes: the kept one, or the one that the call gives.
 fn taken(call: Call, kept: Note) -> Note {
     if call.kept == 1 {
@@ -144,7 +189,8 @@ fn replay(call: Call, kept: Note, rows: &mut [u8]) -> Note
             call.second,
         ),
         7 => program(call.lent),
-        _ => change(call.allowance, call.byte, rows),
+        8 => change(call.allowance, call.byte, rows),
+        _ => replay_departure(call),
     }
     kept
 }

@@ -1,5 +1,6 @@
 // The parts of a line: a name, then what came back under it, with one space before each number.
 ghost use Prim.Native.Nat.{_<_};
+use departures::Departure;
 use libc::STDOUT_FILENO;
 use rows::Note;
 
@@ -36,6 +37,12 @@ pub fn bytes(name: &[u8], lent: &[u8]) {
 
 pub fn note(note: Note) {
     bytes(b" note", &[note.p, note.n, note.k, note.m, note.l, note.r]);
+}
+
+pub fn departure(departure: Departure) {
+    byte(b" departure", departure.boat);
+    spaced(departure.day as u64);
+    spaced(departure.minute as u64);
 }
 
 fn step(s: u64, b: u8) -> u64
