@@ -23,6 +23,7 @@ use Rattle.figures.proofs.Word001.{h-is, formula-is-one, worked-0-0-1}
 use Rattle.figures.proofs.Word000.{worked-0-0-0}
 use Rattle.figures.proofs.Listed001.{list-2, list-3}
 use Rattle.figures.proofs.ZeroWord.{zero-word}
+use Rattle.figures.proofs.Minutes.{minute-gives}
 
 -- a message of three symbols and the word that antt computes
 encodes : (message word : List ℕ) → length message ≡ 3 → T (small message) → length word ≡ 6
@@ -77,4 +78,6 @@ figures =
       n-2-gives-2 = n-2;
       k-n-gives-4 = λ points word m l t some most same. k-n points word some most same m l t;
       l-9-gives-5 = λ points word k m t some most same. l-9 points word some most same k m t;
+      minute-1455 = minute-gives 1455 refl refl;
+      minute-1799 = minute-gives 1799 refl refl;
     }

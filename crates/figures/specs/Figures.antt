@@ -8,12 +8,14 @@
 --   ListGives t near       what list hands back for the word 0, 0, 1 there, asked for t agreements
 --   EncodeGives number p points k   encode of a message of k symbols gives this number
 --   Refused number ..      start and list both give this number
+--   MinuteGives minute digits time   the last three symbols that the writer leaves for a departure of this minute, and the bytes of text that
+--                          the printer leaves, whatever its boat and day
 --   Figures                the whole table
 use mathlib.Core.Path.{_≡_}
 use mathlib.Core.Logic.{_↔_}
 use mathlib.Core.List.{List, [], _∷_, _++_}
 use Prim.Native.Nat.{ℕ, suc, _-_, _*_, _≤_, _<_}
-use lib.ListN.{length, getD, take}
+use lib.ListN.{length, getD, take, drop}
 use Rattle.field.specs.Field.{pow}
 use Rattle.field.specs.Symbols.{symbols, symbolsOf}
 use Rattle.poly.specs.Polynomials.{Seq, Series, xS, Through}
@@ -29,6 +31,9 @@ use Rattle.rows.specs.declared.Turned.{Turned}
 use Rattle.rows.specs.declared.Finished.{Finished}
 use Rattle.near.specs.Job.{refusal, HasListed}
 use Rattle.near.specs.declared.Near.{Near}
+use Rattle.departures.specs.Departures.{InRange, sixSymbols, clock, departureSymbols, timeBytes}
+use Rattle.departures.specs.Jobs.{writeTable, showTable, Puts}
+use Rattle.departures.specs.declared.Departure.{Departure}
 
 abbrev pub six : List ℕ
 six = 1 ∷ 2 ∷ 3 ∷ 4 ∷ 5 ∷ 6 ∷ []
@@ -85,6 +90,15 @@ pub record Refused (number p : ℕ) (points word : List ℕ) (k m l t : ℕ) : T
   pub list : (room zeroed before after : List ℕ) (back : Near) → HasListed p points word k m l t room zeroed before after back
       → back .number ≡ number
 
+-- with room enough
+pub record MinuteGives (minute : ℕ) (digits time : List ℕ) : Type 0 where
+  pub writes : (d : Departure) (before after : List ℕ) (number : ℕ) → InRange d → d .minute ≡ minute → departureSymbols ≤ length before
+      → Puts (writeTable d before) (sixSymbols d) before after number
+      → (number ≡ 0) × (drop 3 (take departureSymbols after) ≡ digits)
+  pub shows : (d : Departure) (before after : List ℕ) (number : ℕ) → InRange d → d .minute ≡ minute → timeBytes ≤ length before
+      → Puts (showTable d before) (clock (d .minute)) before after number
+      → (number ≡ 0) × (take timeBytes after ≡ time)
+
 pub record Figures : Type 0 where
   pub message-5-2-6 : Encodes (5 ∷ 2 ∷ 6 ∷ []) (6 ∷ 5 ∷ 2 ∷ 4 ∷ 4 ∷ 2 ∷ [])
   pub message-1-3-4 : Encodes (1 ∷ 3 ∷ 4 ∷ []) (1 ∷ 2 ∷ 4 ∷ 0 ∷ 4 ∷ 2 ∷ [])
@@ -113,3 +127,7 @@ pub record Figures : Type 0 where
   pub l-9-gives-5 : (points word : List ℕ) (k m t : ℕ) → 3 ≤ length points → length points ≤ 7 → length word ≡ length points → 2 ≤ k
       → k < length points
       → Refused 5 7 points word k m 9 t
+  -- 24:15
+  pub minute-1455 : MinuteGives 1455 (1 ∷ 15 ∷ 29 ∷ []) (50 ∷ 52 ∷ 58 ∷ 49 ∷ 53 ∷ [])
+  -- 29:59
+  pub minute-1799 : MinuteGives 1799 (1 ∷ 27 ∷ 1 ∷ []) (50 ∷ 57 ∷ 58 ∷ 53 ∷ 57 ∷ [])

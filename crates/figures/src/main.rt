@@ -1,5 +1,7 @@
 // Runs the figures of docs/RULES.md, section 18; what it prints is held against stdout. The starred ones are proved besides
-// (specs/Figures.antt). A message or a word is given as a decimal number, a digit for each symbol.
+// (specs/Figures.antt). A message or a word is given as a decimal number, a digit for each symbol, and a departure's message as it is.
+use departures::Departure;
+use departures::limits::DEPARTURE_SYMBOLS;
 use libc::STDOUT_FILENO;
 use poly::limits::ALLOWANCE_MOST;
 use poly::limits::WORKING_ROOM;
@@ -8,13 +10,17 @@ fn wide(x: u8) -> u64 {
     x as u64
 }
 
+fn spaced(number: u64) {
+    io::write_all(STDOUT_FILENO, b" ");
+    io::print_decimal(STDOUT_FILENO, number);
+}
+
 // A name, and the numbers after it.
 fn show(name: &[u8], numbers: &[u8]) {
     io::write_all(STDOUT_FILENO, name);
     let mut i = 0;
     while i < numbers.len() {
-        io::write_all(STDOUT_FILENO, b" ");
-        io::print_decimal(STDOUT_FILENO, wide(numbers[i]));
+        spaced(wide(numbers[i]));
         i += 1;
     }
     io::write_all(STDOUT_FILENO, b"\n");
@@ -23,6 +29,14 @@ fn show(name: &[u8], numbers: &[u8]) {
 fn show_updates(updates: u16) {
     io::write_all(STDOUT_FILENO, b"  updates ");
     io::print_decimal(STDOUT_FILENO, updates as u64);
+    io::write_all(STDOUT_FILENO, b"\n");
+}
+
+fn show_departure(name: &[u8], departure: Departure) {
+    io::write_all(STDOUT_FILENO, name);
+    spaced(wide(departure.boat));
+    spaced(departure.day as u64);
+    spaced(departure.minute as u64);
     io::write_all(STDOUT_FILENO, b"\n");
 }
 
@@ -107,6 +121,29 @@ fn example_19(message: u32, t: u8) {
     list(7, &points, &received, 3, 2, 3, t);
 }
 
+// A departure, written and shown; the time is dashes where there is none.
+fn depart(boat: u8, day: u16, minute: u16) {
+    let departure = Departure { boat, day, minute };
+    let mut message = [0u8; DEPARTURE_SYMBOLS];
+    let written = departures::write(departure, &mut message);
+    let mut time = [b'-', b'-', b':', b'-', b'-'];
+    let shown = departures::show(departure, &mut time);
+    show_departure(b"boat day minute", departure);
+    show(b"  write show", &[written, shown]);
+    show(b"  message", &message);
+    io::write_all(STDOUT_FILENO, b"  time ");
+    io::write_all(STDOUT_FILENO, &time);
+    io::write_all(STDOUT_FILENO, b"\n");
+}
+
+fn read(message: &[u8]) {
+    let reading = departures::read(message);
+    let departure = reading.departure;
+    show(b"message", message);
+    show(b"  read", &[reading.number]);
+    show_departure(b"  boat day minute", departure);
+}
+
 fn main() {
     example_19(526, 4);
     example_19(134, 3);
@@ -127,4 +164,14 @@ fn main() {
     three(7, 16, 345, 2, 1, 1, 4);
     three(7, 16, 654, 2, 1, 1, 3);
     three(7, 17, 754, 2, 1, 1, 3);
+    // departures: 24:15, and the ends of the ranges
+    depart(7, 100, 1455);
+    depart(30, 960, 1799);
+    depart(31, 960, 1799);
+    depart(30, 961, 1799);
+    depart(30, 960, 1800);
+    read(&[7, 3, 7, 1, 27, 1]);
+    read(&[7, 3, 7, 1, 27, 2]);
+    read(&[7, 3, 7, 1, 15, 31]);
+    read(&[7, 3, 7, 1, 15]);
 }
