@@ -9,7 +9,7 @@ use Rattle.near.specs.Lists.{Spelt}
 use Rattle.departures.specs.Departures.{InRange, IsDeparture, sixSymbols, departureOf, clock, departureField, departureSymbols, minuteMost}
 use Rattle.departures.specs.declared.Departure.{Departure}
 
-departure-same : {a b : Departure} → a .boat ≡ b .boat → a .day ≡ b .day → a .minute ≡ b .minute → a ≡ b
+pub departure-same : {a b : Departure} → a .boat ≡ b .boat → a .day ≡ b .day → a .minute ≡ b .minute → a ≡ b
 departure-same {a} {b} p q r =
     ap (λ (x : ℕ). record { boat = x; day = a .day; minute = a .minute }) p
     ∙ ap₂ (λ (x y : ℕ). record { boat = b .boat; day = x; minute = y }) q r

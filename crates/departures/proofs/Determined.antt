@@ -1,5 +1,5 @@
 -- The contracts fix what the jobs on departures hand back and every byte that they were lent.
-use mathlib.Core.Path.{_≡_, refl, sym, ap, ap₂, _∙_}
+use mathlib.Core.Path.{_≡_, refl, sym, ap, _∙_}
 use mathlib.Core.List.{List}
 use Prim.Native.Nat.{ℕ, _*_, _<_}
 use native.Mathlib.Decide.{ℕ-discrete, decLt}
@@ -15,10 +15,10 @@ use Rattle.near.proofs.Lists.{list-unique}
 use Rattle.departures.specs.Jobs.{Puts, ReadsDeparture, readTable}
 use Rattle.departures.specs.Hearing.{hearTable, departureTask, Says, AnswersBoard, HasHeard}
 use Rattle.departures.specs.Hearing.Says.{nothing, shows, strange, waits}
-use Rattle.departures.specs.declared.Departure.{Departure}
 use Rattle.departures.specs.declared.Reading.{Reading}
 use Rattle.departures.specs.declared.Heard.{Heard}
 use Rattle.departures.specs.declared.Heard.the-variants.{Refused}
+use Rattle.departures.proofs.Outcomes.{reading-same}
 use Rattle.departures.proofs.Hearing.{departures-listed}
 
 -- two outcomes of the writer, or of the printer
@@ -46,7 +46,7 @@ puts-determined {table} {text} {before} {after} {also} {x} {y} f g = (same, go (
 -- of the reader
 pub reading-determined : {xs : List ℕ} {x y : Reading} → ReadsDeparture xs x → ReadsDeparture xs y → x ≡ y
 reading-determined {xs} {x} {y} f g =
-    ap₂ (λ (n : ℕ) (d : Departure). record { number = n; departure = d }) same (go (ℕ-discrete (x .number) 0))
+    reading-same same (go (ℕ-discrete (x .number) 0))
   where
     same : x .number ≡ y .number
     same = first-determined (readTable xs) (x .number) (y .number) (f .first) (g .first)

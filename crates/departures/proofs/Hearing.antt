@@ -1,8 +1,8 @@
--- What a board hears of the departure that was sent. Where it agrees in t places or more, that is, where at most n - t symbols were disturbed,
+-- What a board hears of the departure that was sent. Where it agrees at t places or more, that is, where at most n - t symbols were disturbed,
 -- it is on the list: so the one that is shown is the one that was sent.
 use mathlib.Core.Path.{_≡_, refl, sym, ap, subst, _∙_}
-use mathlib.Core.Logic.{inl, inr, ⊎-elim}
-use mathlib.Core.List.{List, [], _∷_, List·Memᴰ·not-nil, List·Memᴰ·cases-cons}
+use mathlib.Core.Logic.{inl, inr}
+use mathlib.Core.List.{List, [], _∷_, List·Memᴰ·not-nil, List·Memᴰ·eq-of-singleton}
 use Prim.Native.Nat.{ℕ, zero, suc, _+_, _*_, _≤_, _<_}
 use native.Mathlib.Decide.{ℕ-discrete, decLt}
 use native.Mathlib.Omega.{arith}
@@ -21,7 +21,7 @@ use Rattle.near.specs.Job.{taskOf}
 use Rattle.near.proofs.Messages.{symbols-numbered, polynomial-same, polynomial-beyond}
 use Rattle.near.proofs.Agreements.{agreements-suc, agrees?}
 use Rattle.departures.specs.Departures.{InRange, sixSymbols, departureOf, departureField, departureSymbols}
-use Rattle.departures.specs.Jobs.{writeTable, Puts}
+use Rattle.departures.specs.Jobs.{WritesDeparture}
 use Rattle.departures.specs.Hearing.{hearTable, departureTask, Says, AnswersBoard, HasHeard, Agrees, disturbed, Hears}
 use Rattle.departures.specs.Hearing.Says.{nothing, shows, strange, waits}
 use Rattle.departures.specs.Hearing.Hears.{itself, among, unheard}
@@ -31,42 +31,37 @@ use Rattle.departures.specs.declared.Heard.the-variants.{One, Refused}
 use Rattle.departures.proofs.DepartureLaws.{six-spell, six-departure}
 use Rattle.departures.proofs.Outcomes.{put-passed}
 
+-- so 1 never applies
 pub departures-listed : Listed departureField
 unfolding listed
 departures-listed = is-listed refl
 
 -- refusals by numbers of at most 9: none of them is 15
-abbrev pub Most : List Refusal → Type 0
-Most [] = Unit
-Most (x ∷ rest) = (x .number ≤ 9) × Most rest
+abbrev pub UpToNine : List Refusal → Type 0
+UpToNine [] = Unit
+UpToNine (x ∷ rest) = (x .number ≤ 9) × UpToNine rest
 
-pub first-most : (table : List Refusal) {number : ℕ} → Most table → First table number → number ≤ 9
+pub first-most : (table : List Refusal) {number : ℕ} → UpToNine table → First table number → number ≤ 9
 first-most [] k e = omega arith
 first-most (x ∷ rest) k (inl (here, e)) = let h = k .0 in omega arith
 first-most (x ∷ rest) k (inr (not, f)) = first-most rest (k .1) f
-
-in-none : {x : List ℕ} → In x [] → ⊥
-in-none h = List·Memᴰ·not-nil h
-
-in-one : {x y : List ℕ} → In x (y ∷ []) → x ≡ y
-in-one h = ⊎-elim (λ e. e) (λ k. absurd (in-none k)) (List·Memᴰ·cases-cons h)
 
 module _ {d : Departure} {points word : List ℕ} {t : ℕ} (sent : Agrees d points word t) where
   -- it is on the list
   on-list : (list : List (List ℕ)) → IsList (departureTask points word t) list → In (sixSymbols d) list
   on-list list exactly =
-      let job = departureTask points word t in
+      let task = departureTask points word t in
       let numbered = symbols-numbered departures-listed in
-      let wanted : Wanted job (polynomial job (sixSymbols d)) =
-      record { degree = λ i k. polynomial-beyond job numbered (sixSymbols d) i k; agrees = sent .enough } in
-      let (x, on, same) = exactly .all (polynomial job (sixSymbols d)) wanted in
-      let is = polynomial-same job numbered x (sixSymbols d) (exactly .spelt x on) (six-departure d (sent .range) .spelt) same in
+      let wanted : Wanted task (polynomial task (sixSymbols d)) =
+      record { degree = λ i k. polynomial-beyond task numbered (sixSymbols d) i k; agrees = sent .enough } in
+      let (x, on, same) = exactly .all (polynomial task (sixSymbols d)) wanted in
+      let is = polynomial-same task numbered x (sixSymbols d) (exactly .spelt x on) (six-departure d (sent .range) .spelt) same in
       subst (λ (y : List ℕ). In y list) is on
 
   heard-on : {list : List (List ℕ)} {back : Heard} → In (sixSymbols d) list → Says list back → Hears d back
-  heard-on on nothing = absurd (in-none on)
-  heard-on on (shows x is) = subst (λ (e : Departure). Hears d (One e)) (sym (six-spell d) ∙ ap departureOf (in-one on)) itself
-  heard-on on (strange x not) = absurd (not (rw (in-one on) at (six-departure d (sent .range))))
+  heard-on on nothing = absurd (List·Memᴰ·not-nil on)
+  heard-on on (shows x is) = subst (λ (e : Departure). Hears d (One e)) (sym (six-spell d) ∙ ap departureOf (List·Memᴰ·eq-of-singleton on)) itself
+  heard-on on (strange x not) = absurd (not (rw (List·Memᴰ·eq-of-singleton on) at (six-departure d (sent .range))))
   heard-on on (waits x y list) = among
 
   pub heard-sent : {m l : ℕ} {room room′ : List ℕ} {back : Heard} → HasHeard points word m l t room room′ back → Hears d back
@@ -124,7 +119,7 @@ undisturbed-agrees {word = word} {t} range encoded few = record { range = range;
 
 -- a departure that was written, encoded and then disturbed in at most n - t places
 pub sent-heard : {d : Departure} {points blank message before sent word room room′ : List ℕ} {m l t : ℕ} {back : Heard}
-    → Puts (writeTable d blank) (sixSymbols d) blank message 0 → Encoded departureField points (take departureSymbols message) before sent 0
+    → WritesDeparture d blank message 0 → Encoded departureField points (take departureSymbols message) before sent 0
     → disturbed (length points) sent word + t ≤ length points
     → HasHeard points word m l t room room′ back
     → Hears d back

@@ -1,20 +1,27 @@
 -- How the writer, the printer and the reader end: what is known where none of their refusals applies; the text at the front of the lent
 -- bytes and the rest as it was, or every byte as it was.
-use mathlib.Core.Path.{_≡_, refl, ap, _∙_}
-use mathlib.Core.List.{List, [], _∷_}
+use mathlib.Core.Path.{_≡_, refl, ap, ap₂, _∙_}
+use mathlib.Core.Logic.{inr}
+use mathlib.Core.List.{List}
 use mathlib.Core.HLevel.{dec→stable}
-use Prim.Native.Nat.{ℕ, suc, _+_, _≤_}
+use Prim.Native.Nat.{ℕ, _+_, _≤_}
 use native.Mathlib.Decide.{ℕ-discrete, decLt, decLe}
 use native.Mathlib.Omega.{arith}
-use lib.ListN.{length, getD, set, take, drop}
-use lib.Seq.{sets, sets-eq, length-sets, getD-set-other, take-append-seam}
+use lib.ListN.{length, getD, take, drop}
+use lib.Seq.{sets, sets-eq, length-sets, take-append-seam}
 use borrow.Author.Needs.{needs}
+use Rattle.field.proofs.Lists.{getD-sets-after}
 use Rattle.poly.specs.Table.{Refusal, First}
-use Rattle.poly.proofs.TableLaws.{first-passed}
+use Rattle.poly.proofs.TableLaws.{first-determined, first-passed}
 use Rattle.departures.specs.Departures.{InRange, IsDeparture}
 use Rattle.departures.specs.Jobs.{putTable, readTable, Puts}
 use Rattle.departures.specs.declared.Departure.{Departure}
+use Rattle.departures.specs.declared.Reading.{Reading}
 
+pub reading-same : {a b : Reading} → a .number ≡ b .number → a .departure ≡ b .departure → a ≡ b
+reading-same p q = ap₂ (λ (n : ℕ) (d : Departure). record { number = n; departure = d }) p q
+
+-- what is known where no refusal applies
 pub put-passed : {d : Departure} {size number : ℕ} (room : List ℕ) → First (putTable d size room) number → number ≡ 0
     → InRange d × (size ≤ length room)
 put-passed {d} {size} room first z =
@@ -38,10 +45,11 @@ read-passed {xs} first z =
       minute = dec→stable (decLe _ _) (λ n. is (λ d. n (d .minute)));
     }
 
-sets-beyond : (xs : List ℕ) (i : ℕ) (text : List ℕ) (q : ℕ) → i + length text ≤ q → getD (sets xs i text) q 0 ≡ getD xs q 0
-sets-beyond xs i [] q h = refl
-sets-beyond xs i (b ∷ text) q h =
-    sets-beyond (set xs i b) (suc i) text q (omega arith) ∙ getD-set-other xs i q b 0 (λ e. omega arith)
+-- and the number is 0 where none applies
+pub put-done : {d : Departure} {size number : ℕ} (room : List ℕ) → InRange d → size ≤ length room → First (putTable d size room) number
+    → number ≡ 0
+put-done {d} {size} {number} room range long first =
+    first-determined (putTable d size room) number 0 first (inr ((λ n. n range), inr ((λ h. omega arith), refl)))
 
 module _ {table : List Refusal} {text before : List ℕ} where
   pub puts-refuses : {number : ℕ} → First table number → (number ≡ 0 → ⊥) → Puts table text before before number
@@ -54,7 +62,7 @@ module _ {table : List Refusal} {text before : List ℕ} where
         front = λ _. ap (take (length text)) (e ∙ sets-eq text before 0 (omega arith)) ∙ take-append-seam text (drop (0 + length text) before);
         rest = λ _. record {
           long = ap length e ∙ length-sets before 0 text;
-          same = λ q h. ap (λ (xs : List ℕ). getD xs q 0) e ∙ sets-beyond before 0 text q (omega arith);
+          same = λ q h. ap (λ (xs : List ℕ). getD xs q 0) e ∙ getD-sets-after before 0 text q 0 (omega arith);
         };
         refused = λ n. absurd (n refl);
       }

@@ -1,23 +1,22 @@
 -- The jobs one after the other: the reader after the writer, the writer after the reader, and that no two minutes print alike.
-use mathlib.Core.Path.{_≡_, sym, ap, ap₂, _∙_}
+use mathlib.Core.Path.{_≡_, sym, ap, _∙_}
 use mathlib.Core.Logic.{⊎-elim}
 use mathlib.Core.List.{List}
 use Prim.Native.Nat.{ℕ, _≤_}
-use native.Mathlib.Omega.{arith}
 use lib.ListN.{length, take}
-use Rattle.departures.specs.Departures.{InRange, IsDeparture, sixSymbols, departureOf, clock, departureSymbols, timeBytes}
-use Rattle.departures.specs.Jobs.{writeTable, showTable, Puts, ReadsDeparture}
+use Rattle.departures.specs.Departures.{IsDeparture, sixSymbols, departureOf, departureSymbols, timeBytes}
+use Rattle.departures.specs.Jobs.{WritesDeparture, ReadsDeparture, ShowsDeparture}
 use Rattle.departures.specs.declared.Departure.{Departure}
 use Rattle.departures.specs.declared.Reading.{Reading}
 use Rattle.departures.proofs.DepartureLaws.{six-spell, six-departure, spelt-six, spelt-range, clock-once}
-use Rattle.departures.proofs.Outcomes.{put-passed, read-passed}
+use Rattle.departures.proofs.Outcomes.{put-passed, put-done, read-passed, reading-same}
 
 -- what was written is read as the departure that it was
 pub read-written : {d : Departure} (before : List ℕ) {after : List ℕ} {number : ℕ} {back : Reading}
-    → Puts (writeTable d before) (sixSymbols d) before after number → number ≡ 0 → ReadsDeparture (take departureSymbols after) back
+    → WritesDeparture d before after number → number ≡ 0 → ReadsDeparture (take departureSymbols after) back
     → back ≡ record { number = 0; departure = d }
 read-written {d} before {after} {back = back} wrote z has =
-    ap₂ (λ (n : ℕ) (e : Departure). record { number = n; departure = e }) done (has .read done ∙ ap departureOf (wrote .front z) ∙ six-spell d)
+    reading-same done (has .read done ∙ ap departureOf (wrote .front z) ∙ six-spell d)
   where
     done : back .number ≡ 0
     done =
@@ -25,22 +24,19 @@ read-written {d} before {after} {back = back} wrote z has =
 
 -- what was read is written as the six symbols that it was, where there is room for them
 pub write-read : {xs : List ℕ} {back : Reading} (before : List ℕ) {after : List ℕ} {number : ℕ} → ReadsDeparture xs back → back .number ≡ 0
-    → departureSymbols ≤ length before → Puts (writeTable (back .departure) before) (sixSymbols (back .departure)) before after number
+    → departureSymbols ≤ length before → WritesDeparture (back .departure) before after number
     → (number ≡ 0) × (take departureSymbols after ≡ xs)
 write-read {xs} {back} before {after} {number} has z room wrote = (done, wrote .front done ∙ ap sixSymbols (has .read z) ∙ spelt-six (is .spelt))
   where
     is : IsDeparture xs
     is = read-passed (has .first) z
 
-    range : InRange (back .departure)
-    range = rw (has .read z) (spelt-range (is .spelt) (is .minute))
-
     done : number ≡ 0
-    done = ⊎-elim (λ h. absurd (h .0 range)) (λ h. ⊎-elim (λ k. absurd (omega (arith, room, k .0))) (λ k. k .1) (h .1)) (wrote .first)
+    done = put-done before (rw (has .read z) (spelt-range (is .spelt) (is .minute))) room (wrote .first)
 
 -- two departures that print alike leave in the same minute of their service day: 24:15 is never 00:15
 pub shown-once : {a b : Departure} (before : List ℕ) {after : List ℕ} {x : ℕ} (other : List ℕ) {also : List ℕ} {y : ℕ}
-    → Puts (showTable a before) (clock (a .minute)) before after x → x ≡ 0 → Puts (showTable b other) (clock (b .minute)) other also y → y ≡ 0
+    → ShowsDeparture a before after x → x ≡ 0 → ShowsDeparture b other also y → y ≡ 0
     → take timeBytes after ≡ take timeBytes also
     → a .minute ≡ b .minute
 shown-once {a} {b} before other f z g w e =

@@ -40,7 +40,7 @@ sixSymbols d =
     d .boat ∷
     d .day / departureField ∷
     d .day % departureField ∷
-    d .minute / (departureField * departureField) ∷
+    d .minute / departureField / departureField ∷
     d .minute / departureField % departureField ∷
     d .minute % departureField ∷
     []

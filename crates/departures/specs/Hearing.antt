@@ -1,11 +1,13 @@
 -- The board's question: which departure was sent? Rules: section 23.
---   hearTable            its refusals 2 to 9: those of a list over the field of departures, with room of its own for the messages
+--   hearTable            its refusals 1 to 9, of which 1 never applies: those of a list over the field of departures, with room of its own
+--                        for the messages
 --   departureTask        what is asked of the list
 --   Says list back       what is said of a list: none, the one departure, several, or 15 for a message that is alone and no departure
 --   AnswersBoard         what an accepted question leaves: with w the curve's weight, 13 where m t is not above w, and else what is said of
 --                        the list
 --   HasHeard             what the job hands back and leaves in the working room
---   Agrees d points word t    the departure is in range and agrees with the received word in t places or more
+--   heardNumber, heardCount, heardDeparture    the number for each answer; 0, 1 or 2 for none, one or several; the departure, or zeros
+--   Agrees d points word t    the departure is in range and agrees with the received word at t places or more
 --   disturbed n xs ys    in how many of the first n places two words differ
 --   Hears d back         what may be heard of a departure that was sent: itself, several, or a number other than 0 and 15; never none, and never
 --                        another departure
@@ -25,6 +27,7 @@ use Rattle.rows.specs.Jobs.{TheCurve, requestTable}
 use Rattle.near.specs.Lists.{Task, polynomial, agreements, IsList}
 use Rattle.near.specs.Job.{taskOf}
 use Rattle.departures.specs.Departures.{InRange, IsDeparture, sixSymbols, departureOf, departureField, departureSymbols}
+use Rattle.departures.specs.Jobs.{zeroDeparture}
 use Rattle.departures.specs.declared.Departure.{Departure}
 use Rattle.departures.specs.declared.Heard.{Heard}
 use Rattle.departures.specs.declared.Heard.the-variants.{None, One, Several, Refused}
@@ -59,6 +62,24 @@ module _ (points word : List ℕ) (m l t : ℕ) (room-before room-after : List �
     pub first : First (hearTable points word m l t room-before) entry
     pub answers : entry ≡ 0 → AnswersBoard
     pub refused : (entry ≡ 0 → ⊥) → (back ≡ Refused entry) × (room-after ≡ room-before)
+
+abbrev pub heardNumber : Heard → ℕ
+heardNumber None = 0
+heardNumber (One d) = 0
+heardNumber Several = 0
+heardNumber (Refused number) = number
+
+abbrev pub heardCount : Heard → ℕ
+heardCount None = 0
+heardCount (One d) = 1
+heardCount Several = 2
+heardCount (Refused number) = 0
+
+abbrev pub heardDeparture : Heard → Departure
+heardDeparture None = zeroDeparture
+heardDeparture (One d) = d
+heardDeparture Several = zeroDeparture
+heardDeparture (Refused number) = zeroDeparture
 
 pub record Agrees (d : Departure) (points word : List ℕ) (t : ℕ) : Type 0 where
   pub range : InRange d

@@ -3,6 +3,7 @@
 --   writeTable, showTable     those of the writer and of the printer
 --   readTable xs              those of the reader
 --   Puts table text ..        what such a job leaves: the text at the front and the rest as it was, or every byte as it was
+--   WritesDeparture, ShowsDeparture    what the writer leaves for a departure, and the printer
 --   zeroDeparture             the departure of zeros that a refused reader hands back
 --   ReadsDeparture xs back    what the reader hands back
 use mathlib.Core.Path.{_≡_}
@@ -11,7 +12,7 @@ use Prim.Native.Nat.{ℕ}
 use lib.ListN.{length, take}
 use Rattle.poly.specs.Table.{Refusal, First, TooShort}
 use Rattle.poly.specs.Lent.{Untouched}
-use Rattle.departures.specs.Departures.{InRange, IsDeparture, departureOf, departureSymbols, timeBytes}
+use Rattle.departures.specs.Departures.{InRange, IsDeparture, sixSymbols, departureOf, clock, departureSymbols, timeBytes}
 use Rattle.departures.specs.declared.Departure.{Departure}
 use Rattle.departures.specs.declared.Reading.{Reading}
 
@@ -32,6 +33,12 @@ pub record Puts (table : List Refusal) (text before after : List ℕ) (number : 
   pub front : number ≡ 0 → take (length text) after ≡ text
   pub rest : number ≡ 0 → Untouched (length text) before after
   pub refused : (number ≡ 0 → ⊥) → after ≡ before
+
+abbrev pub WritesDeparture : Departure → List ℕ → List ℕ → ℕ → Type 0
+WritesDeparture d before after number = Puts (writeTable d before) (sixSymbols d) before after number
+
+abbrev pub ShowsDeparture : Departure → List ℕ → List ℕ → ℕ → Type 0
+ShowsDeparture d before after number = Puts (showTable d before) (clock (d .minute)) before after number
 
 abbrev pub zeroDeparture : Departure
 zeroDeparture = record { boat = 0; day = 0; minute = 0 }

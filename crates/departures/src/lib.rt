@@ -1,7 +1,6 @@
 // Departures as messages: a boat, a service day and a minute of it in six symbols, and the board's question which one was sent. The day ends
 // when the last boat ties up, so no minute is wrapped at 1,440.
-ghost use Rattle.departures.specs.Departures.{sixSymbols, clock};
-ghost use Rattle.departures.specs.Jobs.{writeTable, showTable, Puts, ReadsDeparture};
+ghost use Rattle.departures.specs.Jobs.{WritesDeparture, ReadsDeparture, ShowsDeparture};
 ghost use Rattle.departures.specs.Hearing.{HasHeard};
 use limits::DEPARTURE_FIELD;
 use limits::DEPARTURE_SYMBOLS;
@@ -19,6 +18,13 @@ pub struct Departure {
     pub minute: u16,
 }
 
+// What stands beside a refusal, and where there is not one departure.
+pub const ZERO_DEPARTURE: Departure = Departure {
+    boat: 0,
+    day: 0,
+    minute: 0,
+};
+
 pub struct Reading {
     pub number: u8,
     pub departure: Departure,
@@ -34,8 +40,7 @@ pub enum Heard {
 
 // The departure's six symbols, at the front of the message.
 pub fn write(departure: Departure, message: &mut [u8]) -> u8
-    ensures { λ number. ⌜ Puts (writeTable departure (now (message .entry))) (sixSymbols departure) (now (message .entry)) (now (message .exit))
-        number ⌝ }
+    ensures { λ number. ⌜ WritesDeparture departure (now (message .entry)) (now (message .exit)) number ⌝ }
 {
     let number = refusals::refuse_put(departure, DEPARTURE_SYMBOLS, message);
     if number != 0 {
@@ -52,11 +57,7 @@ pub fn read(message: &[u8]) -> Reading
     if number != 0 {
         return Reading {
             number,
-            departure: Departure {
-                boat: 0,
-                day: 0,
-                minute: 0,
-            },
+            departure: ZERO_DEPARTURE,
         };
     }
     Reading {
@@ -67,8 +68,7 @@ pub fn read(message: &[u8]) -> Reading
 
 // The departure's time of the service day, at the front of the text: 24:15, never 00:15.
 pub fn show(departure: Departure, text: &mut [u8]) -> u8
-    ensures { λ number. ⌜ Puts (showTable departure (now (text .entry))) (clock (departure .minute)) (now (text .entry)) (now (text .exit))
-        number ⌝ }
+    ensures { λ number. ⌜ ShowsDeparture departure (now (text .entry)) (now (text .exit)) number ⌝ }
 {
     let number = refusals::refuse_put(departure, TIME_BYTES, text);
     if number != 0 {

@@ -18,23 +18,25 @@ pub fn put_symbols(departure: Departure, message: &mut [u8])
     message[0] = departure.boat;
     message[1] = (departure.day / BASE) as u8;
     message[2] = (departure.day % BASE) as u8;
-    message[3] = (departure.minute / (BASE * BASE)) as u8;
+    message[3] = (departure.minute / BASE / BASE) as u8;
     message[4] = (departure.minute / BASE % BASE) as u8;
     message[5] = (departure.minute % BASE) as u8;
 }
 
-fn two_digits(high: u8, low: u8) -> u16
+// The number that two symbols spell, high first.
+fn two_symbols(high: u8, low: u8) -> u16
     requires { ⌜ (high < departureField) × (low < departureField) ⌝ }
     ensures { λ r. ⌜ r ≡ withDigit high low ⌝ }
 {
     high as u16 * BASE + low as u16
 }
 
-fn three_digits(high: u8, middle: u8, low: u8) -> u16
+// The number that three symbols spell.
+fn three_symbols(high: u8, middle: u8, low: u8) -> u16
     requires { ⌜ (high < departureField) × ((middle < departureField) × (low < departureField)) ⌝ }
     ensures { λ r. ⌜ r ≡ withDigit (withDigit high middle) low ⌝ }
 {
-    two_digits(high, middle) * BASE + low as u16
+    two_symbols(high, middle) * BASE + low as u16
 }
 
 // The departure that six symbols spell.
@@ -44,7 +46,7 @@ pub fn departure_of(message: &[u8]) -> Departure
 {
     Departure {
         boat: message[0],
-        day: two_digits(message[1], message[2]),
-        minute: three_digits(message[3], message[4], message[5]),
+        day: two_symbols(message[1], message[2]),
+        minute: three_symbols(message[3], message[4], message[5]),
     }
 }

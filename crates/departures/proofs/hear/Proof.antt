@@ -50,6 +50,7 @@ returns-3 c =
 array-share-prefix-messages : tie.Need-array-share-prefix-messages
 array-share-prefix-messages c = search needs
 
+-- the list job's outcome says which bytes are meant
 six-bytes : {points word room room′ messages : List ℕ} {m l t : ℕ} {near : Near}
     → HasListed departureField points word departureSymbols m l t room room′ lentMessages messages near
     → length messages ≡ heightMost * departureSymbols

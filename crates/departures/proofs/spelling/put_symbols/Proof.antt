@@ -20,12 +20,6 @@ cast-message-2 c = search needs
 slice-write-message-3 : tie.Need-slice-write-message-3
 slice-write-message-3 c = rw (length-set, length-set) (omega arith)
 
-mul-message : tie.Need-mul-message
-mul-message c = search needs
-
-div-message : tie.Need-div-message
-div-message c = search needs
-
 cast-message-3 : tie.Need-cast-message-3
 cast-message-3 c = search needs
 
@@ -59,8 +53,6 @@ put-symbols-spec =
     slice-write-message-2
     cast-message-2
     slice-write-message-3
-    mul-message
-    div-message
     cast-message-3
     slice-write-message-4
     cast-message-4
