@@ -1,11 +1,11 @@
 -- What the writer and the printer leave for a minute, whatever boat and day are: both go, and the bytes are computed from the minute alone.
 use mathlib.Core.Path.{_≡_, refl, ap, _∙_}
-use mathlib.Core.List.{List, [], _∷_}
-use Prim.Native.Nat.{ℕ, _*_, _/_, _%_, _≤_}
+use mathlib.Core.List.{List}
+use Prim.Native.Nat.{ℕ, _≤_}
 use native.Mathlib.Omega.{arith}
 use lib.ListN.{length, take, drop}
 use Rattle.poly.proofs.TableLaws.{first-determined}
-use Rattle.departures.specs.Departures.{InRange, clock, departureField}
+use Rattle.departures.specs.Departures.{InRange, sixSymbols, clock}
 use Rattle.departures.specs.Jobs.{putTable, Puts}
 use Rattle.departures.specs.declared.Departure.{Departure}
 use Rattle.figures.specs.Figures.{MinuteGives}
@@ -19,10 +19,9 @@ put-gives {d} {text} {before} {number = number} range room puts = (done, puts .f
     done : number ≡ 0
     done = first-determined (putTable d (length text) before) number 0 (puts .first) ((λ n. n range) ⊳ (λ h. omega arith) ⊳ refl)
 
--- the last three of the six symbols
+-- the last three of the six symbols, in which boat and day do not occur
 abbrev threeSymbols : ℕ → List ℕ
-threeSymbols minute =
-    minute / (departureField * departureField) ∷ minute / departureField % departureField ∷ minute % departureField ∷ []
+threeSymbols minute = drop 3 (sixSymbols (record { boat = 0; day = 0; minute = minute }))
 
 pub minute-gives : (minute : ℕ) {digits time : List ℕ} → threeSymbols minute ≡ digits → clock minute ≡ time → MinuteGives minute digits time
 minute-gives minute three five =

@@ -31,8 +31,8 @@ use Rattle.rows.specs.declared.Turned.{Turned}
 use Rattle.rows.specs.declared.Finished.{Finished}
 use Rattle.near.specs.Job.{refusal, HasListed}
 use Rattle.near.specs.declared.Near.{Near}
-use Rattle.departures.specs.Departures.{InRange, sixSymbols, clock, departureSymbols, timeBytes}
-use Rattle.departures.specs.Jobs.{writeTable, showTable, Puts}
+use Rattle.departures.specs.Departures.{InRange, departureSymbols, timeBytes}
+use Rattle.departures.specs.Jobs.{WritesDeparture, ShowsDeparture}
 use Rattle.departures.specs.declared.Departure.{Departure}
 
 abbrev pub six : List ℕ
@@ -93,10 +93,10 @@ pub record Refused (number p : ℕ) (points word : List ℕ) (k m l t : ℕ) : T
 -- with room enough
 pub record MinuteGives (minute : ℕ) (digits time : List ℕ) : Type 0 where
   pub writes : (d : Departure) (before after : List ℕ) (number : ℕ) → InRange d → d .minute ≡ minute → departureSymbols ≤ length before
-      → Puts (writeTable d before) (sixSymbols d) before after number
+      → WritesDeparture d before after number
       → (number ≡ 0) × (drop 3 (take departureSymbols after) ≡ digits)
   pub shows : (d : Departure) (before after : List ℕ) (number : ℕ) → InRange d → d .minute ≡ minute → timeBytes ≤ length before
-      → Puts (showTable d before) (clock (d .minute)) before after number
+      → ShowsDeparture d before after number
       → (number ≡ 0) × (take timeBytes after ≡ time)
 
 pub record Figures : Type 0 where
