@@ -3,6 +3,7 @@ ghost use Rattle.rows.specs.Jobs.{HasTurned};
 use crate::printing;
 use departures::Departure;
 use departures::Heard;
+use departures::ZERO_DEPARTURE;
 use rows::Note;
 use rows::Turned;
 
@@ -124,16 +125,11 @@ fn print_heard(number: u8, count: u8, departure: Departure) {
 // What was heard, in the numbers of the calls for C: zeros beside a refusal, and where there is not one departure.
 pub fn hear(points: &[u8], word: &[u8], m: u8, l: u8, t: u8, room: &mut [u8]) {
     let heard = departures::hear(points, word, m, l, t, room);
-    let zeros = Departure {
-        boat: 0,
-        day: 0,
-        minute: 0,
-    };
     match heard {
-        Heard::None => print_heard(0, 0, zeros),
+        Heard::None => print_heard(0, 0, ZERO_DEPARTURE),
         Heard::One(departure) => print_heard(0, 1, departure),
-        Heard::Several => print_heard(0, 2, zeros),
-        Heard::Refused(number) => print_heard(number, 0, zeros),
+        Heard::Several => print_heard(0, 2, ZERO_DEPARTURE),
+        Heard::Refused(number) => print_heard(number, 0, ZERO_DEPARTURE),
     }
     printing::sum(b" room", room);
     printing::end();
