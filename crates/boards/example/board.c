@@ -69,8 +69,12 @@ int main(void) {
     if (refused("finish", pluck_finish(note, sizeof note, rows, sizeof rows, curve, sizeof curve, back, sizeof back))) return 1;
     printf("curve    weight %d, height %d\n", back[PLUCK_BACK_WEIGHT], back[PLUCK_BACK_HEIGHT]);
 
-    /* The curve's weight says whether a list can be had at T. Hear works from the word alone, in its own room. */
+    /* The curve's weight says whether a list can be had at T. Hear works from the word alone and makes all updates again, in one call
+       without a redraw. */
     if (M * T <= back[PLUCK_BACK_WEIGHT]) return waits();
-    if (refused("hear", pluck_hear(points, N, word, N, M, L, T, room, sizeof room, heard, sizeof heard))) return 1;
+    uint8_t number = pluck_hear(points, N, word, N, M, L, T, room, sizeof room, heard, sizeof heard);
+    /* The message that is alone is no departure: the board waits, as for none and for several. */
+    if (number == PLUCK_DEPARTURE) return waits();
+    if (refused("hear", number)) return 1;
     return show(heard);
 }
