@@ -11,7 +11,7 @@ mod report;
 mod tally;
 
 use library::Library;
-use second::cases::{Answer, Board, Call, Case, Cases, Jobs, Scale};
+use second::cases::{Answer, Board, Call, Case, Cases, Jobs, Scale, Second};
 use second::limits::BOAT_MOST;
 use second::Note;
 use std::process::ExitCode;
@@ -87,7 +87,7 @@ fn run(asked: Asked, library: Library) -> Result<String, String> {
             Ok(format!("{head}\n\n{}", report::report(&tally)))
         }
         Asked::Departures => {
-            let lines = departures::compare(&library, 0..=BOAT_MOST)?;
+            let lines = departures::compare([&Second, &library], 0..=BOAT_MOST)?;
             let head = format!("Every departure, {} seconds.", seconds());
             Ok(format!("{head}\n\n{}", report::departures(&lines)))
         }
@@ -121,7 +121,6 @@ fn main() -> ExitCode {
 #[cfg(test)]
 mod tests {
     use super::*;
-    use second::cases::Second;
     use second::{Departure, Heard, Listed, Request};
     use tally::Job;
 
@@ -217,10 +216,12 @@ mod tests {
             assert!(tally.of(job).words >= 40, "{name}");
         }
     }
+
     #[test]
     fn every_departure_of_a_boat_goes_there_and_back() {
+        let library = Library::new().unwrap();
         for boat in [0, BOAT_MOST] {
-            let lines = departures::compare(&Library::new().unwrap(), boat..=boat).unwrap();
+            let lines = departures::compare([&Second, &library], boat..=boat).unwrap();
             let counts: Vec<[usize; 2]> =
                 lines.iter().map(|line| [line.done, line.refused]).collect();
             let (all, past) = ([961 * 1_800, 0], [0, 225 + 64_575 + 63_736]);
@@ -232,7 +233,12 @@ mod tests {
     #[test]
     fn a_wrong_departure_is_found() {
         for job in [Job::Write, Job::Read, Job::Show] {
-            assert!(departures::compare(&Wrong(job), 0..=0).is_err());
+            assert!(departures::compare([&Second, &Wrong(job)], 0..=0).is_err());
         }
+    }
+
+    #[test]
+    fn a_departure_that_both_read_wrong_is_found() {
+        assert!(departures::compare([&Wrong(Job::Read); 2], 0..=0).is_err());
     }
 }
