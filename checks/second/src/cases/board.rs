@@ -177,6 +177,7 @@ impl<J: Jobs> Board<J> {
             messages,
         }
     }
+
     fn program(&self, text: &[u8]) -> Answer {
         let text = self.jobs.program(text);
         Answer::Program { text }
