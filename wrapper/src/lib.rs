@@ -4,7 +4,8 @@
 //! any notes may be handed in, and the job answers.
 //!
 //! Each job hands back its outcome, that is `Ok` for number 0 or the [`Refusal`], beside what else it says: also where it
-//! refuses, since a turn refused late has made updates.
+//! refuses, since a turn refused late has made updates. The jobs on departures say nothing beside a refusal, so each of them
+//! hands back one result.
 //!
 //! ```
 //! use pluck::{finish, start, Request};
