@@ -42,13 +42,13 @@ pub const DEPARTURE_FIELD: u8 = 31;
 /// The symbols of a departure's message.
 pub const DEPARTURE_SYMBOLS: usize = 6;
 
-/// The greatest boat.
+/// The largest boat.
 pub const BOAT_MOST: u8 = 30;
 
-/// The greatest service day.
+/// The largest service day.
 pub const DAY_MOST: u16 = 960;
 
-/// The greatest minute of a service day.
+/// The largest minute of a service day.
 pub const MINUTE_MOST: u16 = 1_799;
 
 /// The time that a departure prints.

@@ -38,13 +38,13 @@ pub const DEPARTURE_FIELD: u8 = 31;
 /// The symbols of a departure's message.
 pub const DEPARTURE_SYMBOLS: usize = 6;
 
-/// The greatest boat: one symbol.
+/// The largest boat: one symbol.
 pub const BOAT_MOST: u8 = 30;
 
-/// The greatest service day: two digits.
+/// The largest service day: two digits.
 pub const DAY_MOST: u16 = 960;
 
-/// The greatest minute of a service day: thirty hours less a minute.
+/// The largest minute of a service day: thirty hours less a minute.
 pub const MINUTE_MOST: u16 = 1_799;
 
 /// The time that a departure prints.
