@@ -34,7 +34,8 @@ extern "C" {
 #define PLUCK_UPDATES_MOST 3886    /* the most updates from a start: 29 * (1 + 4 + 9 + 16) + 29 * 4 * (5 + 6 + 7 + 8) */
 #define PLUCK_ALLOWANCE_MOST 65535 /* the largest allowance */
 
-/* The numbers of a departure. */
+/* The numbers of a departure. C cuts a number that is too large for its type before a call sees it, so that a boat of 263 becomes 7 and is
+   answered: hold such numbers against these first. */
 #define PLUCK_DEPARTURE_FIELD 31   /* the field of its symbols, and so the base of its digits */
 #define PLUCK_DEPARTURE_SYMBOLS 6  /* the symbols of its message */
 #define PLUCK_BOAT_MOST 30         /* the largest boat */
