@@ -1,4 +1,4 @@
--- The departure that was sent, on the bytes that C sees: where it agrees in t places or more, the one that is shown is that one.
+-- The departure that was sent, on the bytes that C sees: where it agrees at t places or more, the one that is shown is that one.
 use mathlib.Core.Path.{sym, subst}
 use mathlib.Core.List.{List}
 use Prim.Native.Nat.{ℕ, _≤_}

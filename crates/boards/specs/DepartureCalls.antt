@@ -4,7 +4,7 @@
 --   ReadCall, HearCall    the number by the call's table, and:
 --     done          if no line of it applies: what the job's own contract says, with what it hands back in the lent bytes
 --     refused       if one does: every byte is as it was, but for zeros where the answer would stand, if there is room for them
---   SentHeard d number heard    what the call may tell where the departure d was sent and agrees in t places or more
+--   SentHeard d number heard    what the call may tell where the departure d was sent and agrees at t places or more
 -- Write and show hand back their number alone: their calls have the job's own contract.
 use mathlib.Core.Path.{_≡_}
 use mathlib.Core.Logic.{_⊎_}
