@@ -23,10 +23,9 @@ use Rattle.rows.specs.declared.Note.{Note}
 use Rattle.rows.specs.declared.Turned.{Turned}
 use Rattle.rows.specs.declared.Finished.{Finished}
 use Rattle.near.specs.declared.Near.{Near}
-use Rattle.departures.specs.Jobs.{zeroDeparture}
+use Rattle.departures.specs.Hearing.{heardNumber, heardCount, heardDeparture}
 use Rattle.departures.specs.declared.Departure.{Departure}
 use Rattle.departures.specs.declared.Heard.{Heard}
-use Rattle.departures.specs.declared.Heard.the-variants.{None, One, Several, Refused}
 use Rattle.boards.specs.declared.Back.{Back}
 use Rattle.boards.specs.declared.departure_calls.HeardBack.{HeardBack}
 
@@ -76,10 +75,7 @@ abbrev pub departureIn : List ℕ → Departure
 departureIn xs = record { boat = getD xs 0 0; day = getD xs 1 0 + 256 * getD xs 2 0; minute = getD xs 3 0 + 256 * getD xs 4 0 }
 
 abbrev pub backOfHear : Heard → HeardBack
-backOfHear None = record { number = 0; departure = zeroDeparture; count = 0 }
-backOfHear (One d) = record { number = 0; departure = d; count = 1 }
-backOfHear Several = record { number = 0; departure = zeroDeparture; count = 2 }
-backOfHear (Refused number) = record { number = number; departure = zeroDeparture; count = 0 }
+backOfHear heard = record { number = heardNumber heard; departure = heardDeparture heard; count = heardCount heard }
 
 abbrev pub heardInto : HeardBack → List ℕ → List ℕ
 heardInto back xs = sets xs 0 (bytesOf (back .departure) ++ back .count ∷ [])

@@ -3,13 +3,13 @@
 ghost use mathlib.Core.Path.{_≡_};
 ghost use Prim.Native.Nat.{_≤_};
 ghost use lib.ListN.{length};
-ghost use Rattle.departures.specs.Departures.{sixSymbols, clock};
-ghost use Rattle.departures.specs.Jobs.{writeTable, showTable, Puts};
+ghost use Rattle.departures.specs.Jobs.{WritesDeparture, ShowsDeparture};
 ghost use Rattle.boards.specs.Lent.{departureBytes, heardBytes, departureInto, backOfHear, heardInto};
 ghost use Rattle.boards.specs.DepartureCalls.{ReadCall, HearCall};
 use crate::clear_lent;
 use departures::Departure;
 use departures::Heard;
+use departures::ZERO_DEPARTURE;
 
 const DEPARTURE_BYTES: usize = 5;
 
@@ -25,15 +25,10 @@ pub struct HeardBack {
 fn back_of_hear(heard: Heard) -> HeardBack
     ensures { λ back. ⌜ back ≡ backOfHear heard ⌝ }
 {
-    let none = Departure {
-        boat: 0,
-        day: 0,
-        minute: 0,
-    };
     match heard {
         Heard::None => HeardBack {
             number: 0,
-            departure: none,
+            departure: ZERO_DEPARTURE,
             count: 0,
         },
         Heard::One(departure) => HeardBack {
@@ -43,12 +38,12 @@ fn back_of_hear(heard: Heard) -> HeardBack
         },
         Heard::Several => HeardBack {
             number: 0,
-            departure: none,
+            departure: ZERO_DEPARTURE,
             count: 2,
         },
         Heard::Refused(number) => HeardBack {
             number,
-            departure: none,
+            departure: ZERO_DEPARTURE,
             count: 0,
         },
     }
@@ -76,8 +71,8 @@ fn put_heard(bytes: &mut [u8], back: HeardBack)
 
 #[no_mangle]
 pub extern "C" fn pluck_write_departure(boat: u8, day: u16, minute: u16, message: &mut [u8]) -> u8
-    ensures { λ number. ⌜ Puts (writeTable (record { boat = boat; day = day; minute = minute }) (now (message .entry)))
-        (sixSymbols (record { boat = boat; day = day; minute = minute })) (now (message .entry)) (now (message .exit)) number ⌝ }
+    ensures { λ number. ⌜ WritesDeparture (record { boat = boat; day = day; minute = minute }) (now (message .entry)) (now (message .exit))
+        number ⌝ }
 {
     departures::write(Departure { boat, day, minute }, message)
 }
@@ -101,8 +96,7 @@ pub extern "C" fn pluck_read_departure(message: &[u8], departure: &mut [u8]) -> 
 
 #[no_mangle]
 pub extern "C" fn pluck_show_departure(boat: u8, day: u16, minute: u16, text: &mut [u8]) -> u8
-    ensures { λ number. ⌜ Puts (showTable (record { boat = boat; day = day; minute = minute }) (now (text .entry))) (clock minute)
-        (now (text .entry)) (now (text .exit)) number ⌝ }
+    ensures { λ number. ⌜ ShowsDeparture (record { boat = boat; day = day; minute = minute }) (now (text .entry)) (now (text .exit)) number ⌝ }
 {
     departures::show(Departure { boat, day, minute }, text)
 }
