@@ -246,6 +246,14 @@ read-done {message} {departure} {job = job} has z long e =
 
 -- hear
 
+-- what is heard has its place in the lent bytes, where the call is not refused
+pub hear-room : {points word : List ℕ} {m l t : ℕ} (room heard : List ℕ) {entry : ℕ} → First (hearCallTable points word m l t room heard) entry
+    → entry ≡ 0
+    → length heard < heardBytes
+    → ⊥
+hear-room {points} {word} {m} {l} {t} room heard first z short =
+    first-passed (hearCallTable points word m l t room heard) (search needs) first z .1 .1 .1 .1 .1 .1 .1 .1 .0 (inr short)
+
 pub hear-short : {points word : List ℕ} {m l t : ℕ} {room room′ heard : List ℕ} {job : Heard} {back : HeardBack} → length heard < heardBytes
     → HasHeard points word m l t [] room′ job → back ≡ backOfHear job
     → HearCall points word m l t room room heard heard (back .number)
@@ -256,7 +264,7 @@ hear-short {points} {word} {m} {l} {t} {room} {heard = heard} short has e =
     record {
       entry = has .entry;
       first = first;
-      done = λ z. absurd (first-passed table (search needs) first z .1 .1 .1 .1 .1 .1 .1 .1 .0 (inr short));
+      done = λ z. absurd (hear-room room heard first z short);
       refused = λ n. (ap (λ x. x .number) (e ∙ ap backOfHear (has .refused n .0)), refl, cleared-none short);
     }
 
