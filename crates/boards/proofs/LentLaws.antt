@@ -1,5 +1,5 @@
 -- What is written into lent bytes is what is read there, and zeros clear them.
-use mathlib.Core.Path.{_≡_, refl, sym, ap, ap₂, _∙_}
+use mathlib.Core.Path.{_≡_, refl, sym, ap, _∙_}
 use mathlib.Core.List.{List, [], _∷_, _++_}
 use Prim.Native.Nat.{ℕ, zero, suc, _/_, _%_, _<_, _≤_}
 use native.Mathlib.Decide.{decLt}
@@ -11,6 +11,7 @@ use Rattle.poly.proofs.BufferLaws.{untouched-none, zeroed-unique}
 use Rattle.rows.specs.Jobs.{noNote}
 use Rattle.rows.specs.declared.Note.{Note}
 use Rattle.departures.specs.declared.Heard.the-variants.{Refused}
+use Rattle.departures.proofs.DepartureLaws.{departure-same}
 use Rattle.boards.specs.declared.Back.{Back}
 use Rattle.boards.specs.declared.departure_calls.HeardBack.{HeardBack}
 use Rattle.boards.specs.Lent.{noteBytes, backBytes, departureBytes, heardBytes, noteOf, noteInto, backInto, updatesOf, finishedOf}
@@ -62,9 +63,7 @@ pub bytes-kept : (back : HeardBack) (xs : List ℕ) → heardBytes ≤ length xs
 bytes-kept back xs h = ap (take departureBytes) (heard-front back xs h)
 
 pub departure-kept : (back : HeardBack) (xs : List ℕ) → heardBytes ≤ length xs → departureIn (heardInto back xs) ≡ back .departure
-departure-kept back xs h =
-    ap departureIn (heard-front back xs h)
-    ∙ ap₂ (λ (x y : ℕ). record { boat = back .departure .boat; day = x; minute = y }) (omega arith) (omega arith)
+departure-kept back xs h = ap departureIn (heard-front back xs h) ∙ departure-same refl (omega arith) (omega arith)
 
 pub count-kept : (back : HeardBack) (xs : List ℕ) → heardBytes ≤ length xs → countIn (heardInto back xs) ≡ back .count
 count-kept back xs h = ap countIn (heard-front back xs h)
