@@ -94,9 +94,16 @@ fn line(name: &[u8], n: u64) {
     io::write_all(STDOUT_FILENO, b"\n");
 }
 
+fn print_number(number: u8) {
+    line(b"number=", number as u64);
+}
+
 fn print_departure(departure: Departure) {
     let mut time = [0u8; TIME_BYTES];
-    departures::show(departure, &mut time);
+    let number = departures::show(departure, &mut time);
+    if number != 0 {
+        return print_number(number);
+    }
     line(b"boat=", departure.boat as u64);
     line(b"day=", departure.day as u64);
     io::write_all(STDOUT_FILENO, b"time=");
@@ -113,7 +120,7 @@ fn tell(heard: Heard) {
         Heard::Several => {
             io::write_all(STDOUT_FILENO, b"several\n");
         }
-        Heard::Refused(number) => line(b"number=", number as u64),
+        Heard::Refused(number) => print_number(number),
     }
 }
 
