@@ -1,32 +1,52 @@
--- A word of which only the first symbols were written is disturbed in no more places than these.
-use mathlib.Core.Path.{sym}
+-- A word of which the first symbols came out wrong, and no other, is disturbed in that many places.
+use mathlib.Core.Path.{_≡_, refl, sym, subst, _∙_}
 use mathlib.Core.List.{List}
 use Prim.Native.Nat.{ℕ, zero, suc, _≤_, _<_}
 use native.Mathlib.Decide.{ℕ-discrete, decLt}
 use native.Mathlib.Omega.{arith}
-use lib.ListN.{getD}
-use Rattle.field.specs.Choices.{choose}
-use Rattle.field.proofs.Choices.{choose-yes}
+use lib.ListN.{length, getD, set, length-set}
+use lib.Seq.{getD-set-same, getD-set-other}
+use Rattle.field.proofs.Choices.{choose-yes, choose-no}
 use Rattle.poly.specs.Lent.{Untouched}
 use Rattle.departures.specs.Hearing.{disturbed}
 
-choose-most : {B : Type 0} (d : Dec B) → choose {A = ℕ} d 0 1 ≤ 1
-choose-most (yes h) = omega arith
-choose-most (no h) = omega arith
+-- the first s symbols came out wrong, and no other
+pub record Wrong (s : ℕ) (before after : List ℕ) : Type 0 where
+  pub count : disturbed s before after ≡ s
+  pub rest : Untouched s before after
 
-disturbed-most : (n : ℕ) (xs ys : List ℕ) → disturbed n xs ys ≤ n
-disturbed-most zero xs ys = omega arith
-disturbed-most (suc n) xs ys =
-    let h = disturbed-most n xs ys in
-    let one = choose-most (ℕ-discrete (getD xs n 0) (getD ys n 0)) in
-    omega arith
+pub wrong-none : (xs : List ℕ) → Wrong 0 xs xs
+wrong-none xs = record { count = refl; rest = record { long = refl; same = λ q h. refl } }
 
-pub untouched-few : {count : ℕ} {xs ys : List ℕ} → Untouched count xs ys → (n : ℕ) → disturbed n xs ys ≤ count
-untouched-few u zero = omega arith
-untouched-few {count} {xs} {ys} u (suc n) = go (untouched-few u n) (decLt n count)
+-- what was counted is as it was, where only later places are written
+disturbed-same : (n : ℕ) (xs ys zs : List ℕ) → ((q : ℕ) → q < n → getD zs q 0 ≡ getD ys q 0)
+    → disturbed n xs zs ≡ disturbed n xs ys
+disturbed-same zero xs ys zs same = refl
+disturbed-same (suc n) xs ys zs same = rw (same n (omega arith), disturbed-same n xs ys zs (λ q h. same q (omega arith))) refl
+
+-- one symbol more
+pub wrong-more : (s v : ℕ) {xs ys : List ℕ} → Wrong s xs ys → s < length ys → (v ≡ getD ys s 0 → ⊥) → Wrong (suc s) xs (set ys s v)
+wrong-more s v {xs} {ys} w inside other =
+    let before = disturbed-same s xs ys (set ys s v) (λ q h. getD-set-other ys s q v 0 (λ e. omega arith)) in
+    let is = getD-set-same ys s v 0 inside in
+    let differs = choose-no {A = ℕ} (ℕ-discrete (getD xs s 0) (getD (set ys s v) s 0)) 0 1
+    (λ e. other (sym is ∙ sym e ∙ sym (w .rest .same s (omega arith)))) in
+    record {
+      count = omega (arith, before, w .count, differs);
+      rest =
+          record {
+            long = length-set ys s v ∙ w .rest .long;
+            same = λ q h. getD-set-other ys s q v 0 (λ e. omega arith) ∙ w .rest .same q (omega arith);
+          };
+    }
+
+-- and none of the symbols after them is disturbed
+pub wrong-disturbed : {s : ℕ} {xs ys : List ℕ} → Wrong s xs ys → (n : ℕ) → s ≤ n → disturbed n xs ys ≡ s
+wrong-disturbed {s} w zero h = omega arith
+wrong-disturbed {s} {xs} {ys} w (suc n) h = go (decLt n s) (λ k. wrong-disturbed w n k)
   where
-    go : disturbed n xs ys ≤ count → Dec (n < count) → disturbed (suc n) xs ys ≤ count
-    go few (yes h) = let most = disturbed-most (suc n) xs ys in omega arith
-    go few (no h) =
-        let same = choose-yes {A = ℕ} (ℕ-discrete (getD xs n 0) (getD ys n 0)) 0 1 (sym (u .same n (omega arith))) in
-        omega (arith, few, same)
+    go : Dec (n < s) → (s ≤ n → disturbed n xs ys ≡ s) → disturbed (suc n) xs ys ≡ s
+    go (yes k) before = let e : s ≡ suc n = omega arith in subst (λ (k : ℕ). disturbed k xs ys ≡ s) e (w .count)
+    go (no k) before =
+        let same = choose-yes {A = ℕ} (ℕ-discrete (getD xs n 0) (getD ys n 0)) 0 1 (sym (w .rest .same n (omega arith))) in
+        omega (arith, before (omega arith), same)

@@ -1,9 +1,11 @@
 // A departure's way from the writer to the board: written, encoded, disturbed by the radio, heard and printed.
+ghost use mathlib.Core.Path.{_≡_};
 ghost use Prim.Native.Nat.{_≤_};
 ghost use lib.ListN.{length};
 ghost use Rattle.poly.specs.Lent.{Untouched};
-ghost use Rattle.departures.specs.Departures.{InRange};
-ghost use Rattle.departures.specs.Hearing.{Hears};
+ghost use Rattle.departures.specs.Departures.{InRange, departureField};
+ghost use Rattle.departures.specs.Hearing.{disturbed, Hears};
+ghost use Rattle.sailing.specs.Voyage.{AllPoints, Sailed, disturbedMost};
 use departures::Departure;
 use departures::Heard;
 use departures::limits::DEPARTURE_FIELD;
@@ -12,52 +14,44 @@ use departures::limits::TIME_BYTES;
 use libc::STDOUT_FILENO;
 use poly::limits::WORKING_ROOM;
 
-const POINTS: [u8; 31] = [
-    0,
-    1,
-    2,
-    3,
-    4,
-    5,
-    6,
-    7,
-    8,
-    9,
-    10,
-    11,
-    12,
-    13,
-    14,
-    15,
-    16,
-    17,
-    18,
-    19,
-    20,
-    21,
-    22,
-    23,
-    24,
-    25,
-    26,
-    27,
-    28,
-    29,
-    30,
-];
+// As many points as the field has symbols.
+const POINTS: usize = DEPARTURE_FIELD as usize;
 
-// 31 points less 15 symbols that may be disturbed.
-const WANTED: u8 = 16;
+// How many symbols the radio gets wrong.
+const DISTURBED: usize = 15;
+
+// What a board asks with: m, l, and as t the agreements that are left.
+const M: u8 = 2;
+
+const L: u8 = 4;
+
+const WANTED: u8 = DEPARTURE_FIELD - DISTURBED as u8;
+
+// Each symbol as a point: 0, 1, .., 30.
+fn all_points() -> [u8; POINTS]
+    ensures { λ r. ⌜ AllPoints r ⌝ }
+{
+    let mut points = [0u8; POINTS];
+    let mut i = 0;
+    while i < POINTS {
+        points[i] = i as u8;
+        i += 1;
+    }
+    points
+}
 
 // A symbol that the radio got wrong.
-fn wrong(symbol: u8) -> u8 {
+fn wrong(symbol: u8) -> u8
+    ensures { λ r. ⌜ (r ≡ symbol → ⊥) ⌝ }
+{
     ((symbol as u16 + 1) % DEPARTURE_FIELD as u16) as u8
 }
 
-// The first `count` symbols come out wrong.
+// The first `count` symbols come out wrong, and no other.
 fn disturb(word: &mut [u8], count: usize)
     requires { ⌜ count ≤ length (now word) ⌝ }
     ensures { λ _. ⌜ Untouched count (now (word .entry)) (now (word .exit)) ⌝ }
+    ensures { λ _. ⌜ disturbed (length (now (word .entry))) (now (word .entry)) (now (word .exit)) ≡ count ⌝ }
 {
     let mut s = 0;
     while s < count {
@@ -66,26 +60,21 @@ fn disturb(word: &mut [u8], count: usize)
     }
 }
 
-// What a board hears of the departure where so many of its 31 symbols were disturbed.
+// What a board hears of the departure where so many of its symbols were disturbed.
 fn sail(departure: Departure, count: usize) -> Heard
     requires { ⌜ InRange departure ⌝ }
-    requires { ⌜ count ≤ 15 ⌝ }
-    ensures { λ heard. ⌜ Hears departure heard ⌝ }
+    requires { ⌜ count ≤ departureField ⌝ }
+    ensures { λ heard. ⌜ Sailed departure count heard ⌝ }
+    ensures { λ heard. ⌜ (count ≤ disturbedMost → Hears departure heard) ⌝ }
 {
     let mut message = [0u8; DEPARTURE_SYMBOLS];
-    let number = departures::write(departure, &mut message);
-    if number != 0 {
-        return Heard::Refused(number);
-    }
-    let points = POINTS;
-    let mut word = [0u8; 31];
-    let number = poly::encode(DEPARTURE_FIELD, &points, &message, &mut word);
-    if number != 0 {
-        return Heard::Refused(number);
-    }
+    departures::write(departure, &mut message);
+    let points = all_points();
+    let mut word = [0u8; POINTS];
+    poly::encode(DEPARTURE_FIELD, &points, &message, &mut word);
     disturb(&mut word, count);
     let mut room = [0u8; WORKING_ROOM];
-    departures::hear(&points, &word, 2, 4, WANTED, &mut room)
+    departures::hear(&points, &word, M, L, WANTED, &mut room)
 }
 
 fn line(name: &[u8], n: u64) {
@@ -130,5 +119,5 @@ fn main() {
         day: 100,
         minute: 1455,
     };
-    tell(sail(last_boat, 15));
+    tell(sail(last_boat, DISTURBED));
 }

@@ -1,27 +1,21 @@
--- `disturb` meets its contract: only symbols before `count` are written.
-use mathlib.Core.Path.{refl, _∙_}
-use mathlib.Core.List.{List}
-use Prim.Native.Nat.{ℕ, _-_, _<_}
+-- `disturb` meets its contract: the symbols passed are wrong, and the others as they were.
+use mathlib.Core.Path.{_≡_}
+use Prim.Native.Nat.{suc, _+_, _-_, _≤_}
 use native.Mathlib.Omega.{arith}
-use lib.ListN.{set, length-set}
-use lib.Seq.{getD-set-other}
+use lib.ListN.{length}
 use borrow.Author.Needs.{needs}
-use Rattle.poly.specs.Lent.{Untouched}
+use Rattle.sailing.proofs.Disturbing.{Wrong, wrong-none, wrong-more, wrong-disturbed}
 use Rattle.sailing.proofs.disturb.Statement.{statement}
 use Rattle.sailing.proofs.disturb.Tie as tie
 
 abbrev Inv-loop : tie.InvT-loop
-Inv-loop word₀ count s₀ word s = Untouched count word₀ word
+Inv-loop word₀ count s₀ word s = (s ≤ count) × Wrong s word₀ word
 
 abbrev μ-loop : tie.MeasureT-loop
 μ-loop word₀ count s₀ word s = count - s
 
-untouched-set : {count : ℕ} (s b : ℕ) {xs ys : List ℕ} → s < count → Untouched count xs ys → Untouched count xs (set ys s b)
-untouched-set s b {xs} {ys} h u =
-    record { long = length-set ys s b ∙ u .long; same = λ q k. getD-set-other ys s q b 0 (λ e. omega arith) ∙ u .same q k }
-
 loop-holds : tie.Need-loop-holds Inv-loop μ-loop
-loop-holds c = record { long = refl; same = λ q h. refl }
+loop-holds c = (omega arith, wrong-none _)
 
 slice-read-wrong : tie.Need-slice-read-wrong Inv-loop μ-loop
 slice-read-wrong c = search needs
@@ -41,13 +35,20 @@ loop-less c = search needs
 loop-again : tie.Need-loop-again Inv-loop μ-loop
 loop-again c =
     let step = c .before .before in
-    untouched-set (step .before .loop .s) (c .wrong .result) (step .loop-test .taken) (step .before .loop .inv)
+    let l = step .before .loop in
+    let e : l .s + 1 ≡ suc (l .s) = omega arith in
+    (search needs, rw e (wrong-more (l .s) (c .wrong .result) (l .inv .1) (search needs) (c .wrong .ensures)))
 
 same-length : tie.Need-same-length Inv-loop μ-loop
-same-length c = c .before .loop .inv .long
+same-length c = c .before .loop .inv .1 .rest .long
 
 returns : tie.Need-returns Inv-loop μ-loop
-returns c = c .before .loop .inv
+returns c =
+    let start = c .before .before .before in
+    let l = c .before .loop in
+    let e : l .s ≡ start .args .count = omega arith in
+    let wrong = rw e at (l .inv .1) in
+    (wrong .rest, wrong-disturbed wrong (length (start .args .word .now)) (start .pre))
 
 pub disturb-spec : {M : Type 1} → statement M
 disturb-spec =
