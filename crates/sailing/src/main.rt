@@ -18,14 +18,14 @@ use poly::limits::WORKING_ROOM;
 const POINTS: usize = DEPARTURE_FIELD as usize;
 
 // How many symbols the radio gets wrong.
-const DISTURBED: usize = 15;
+const DISTURBED_MOST: usize = 15;
 
 // What a board asks with: m, l, and as t the agreements that are left.
 const M: u8 = 2;
 
 const L: u8 = 4;
 
-const WANTED: u8 = DEPARTURE_FIELD - DISTURBED as u8;
+const WANTED: u8 = DEPARTURE_FIELD - DISTURBED_MOST as u8;
 
 // Each symbol as a point: 0, 1, .., 30.
 fn all_points() -> [u8; POINTS]
@@ -119,5 +119,5 @@ fn main() {
         day: 100,
         minute: 1455,
     };
-    tell(sail(last_boat, DISTURBED));
+    tell(sail(last_boat, DISTURBED_MOST));
 }
