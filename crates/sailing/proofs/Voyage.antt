@@ -8,7 +8,6 @@ use lib.ListN.{length}
 use lib.Seq.{take-all}
 use Rattle.poly.specs.Table.{BadCount, BadDegree, TooLarge, Repeated, TooShort}
 use Rattle.poly.specs.Limits.{workingRoom}
-use Rattle.poly.specs.Lent.{Untouched}
 use Rattle.poly.specs.Encode.{Encoded, encodeTable}
 use Rattle.poly.specs.Buffers.{AllBelow}
 use Rattle.poly.proofs.TableLaws.{Passed, first-determined, passed-first, not-unlisted, none-large, good-count, good-degree}
@@ -20,7 +19,7 @@ use Rattle.departures.specs.declared.Heard.{Heard}
 use Rattle.departures.proofs.DepartureLaws.{six-departure}
 use Rattle.departures.proofs.Outcomes.{put-done}
 use Rattle.departures.proofs.Hearing.{departures-listed, sent-heard}
-use Rattle.sailing.specs.Voyage.{AllPoints, Sailed, multiplicity, height, wanted, disturbedMost}
+use Rattle.sailing.specs.Voyage.{AllPoints, Disturbs, Sailed, multiplicity, height, wanted, disturbedMost}
 
 -- all points are symbols, and no two of them are equal
 module _ {points : List ℕ} (all : AllPoints points) where
@@ -53,11 +52,11 @@ module _ {d : Departure} (range : InRange d) {blank message points empty sent re
   pub sailed : {count : ℕ} {room cleared : List ℕ} {heard : Heard} → length blank ≡ departureSymbols → WritesDeparture d blank message x
       → AllPoints points → length empty ≡ departureField
       → Encoded departureField points message empty sent y
-      → Untouched count sent received × (disturbed (length sent) sent received ≡ count)
+      → Disturbs count sent received
       → workingRoom ≤ length room
       → HasHeard points received multiplicity height wanted room cleared heard
       → Sailed d count heard
-  sailed six wrote all long encoded (rest, changed) enough hears =
+  sailed six wrote all long encoded disturbs enough hears =
       let written = put-done blank range (omega arith) (wrote .first) in
       let whole = take-all departureSymbols message (omega (arith, wrote .rest written .long, six)) in
       let spelled = sym whole ∙ wrote .front written in
@@ -71,9 +70,9 @@ module _ {d : Departure} (range : InRange d) {blank message points empty sent re
         empty = empty;
         sent = sent;
         encoded = rw (done, sym whole) at encoded;
+        whole = encoded .long ∙ long;
         received = received;
-        changed = rw (encoded .long ∙ long) at changed;
-        rest = rest;
+        disturbs = disturbs;
         room = _;
         enough = enough;
         cleared = _;
@@ -83,5 +82,6 @@ module _ {d : Departure} (range : InRange d) {blank message points empty sent re
 -- what a board hears of a departure that sailed with few enough symbols disturbed
 pub sailed-heard : {d : Departure} {count : ℕ} {heard : Heard} → Sailed d count heard → count ≤ disturbedMost → Hears d heard
 sailed-heard s few =
-    let enough : disturbed departureField (s .sent) (s .received) + wanted ≤ departureField = omega (arith, s .changed, few) in
+    let changed = rw (s .whole) at (s .disturbs .changed) in
+    let enough : disturbed departureField (s .sent) (s .received) + wanted ≤ departureField = omega (arith, changed, few) in
     sent-heard (s .written) (s .encoded) (rw (s .all .long) enough) (s .hears)

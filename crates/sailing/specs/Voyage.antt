@@ -1,9 +1,9 @@
 -- A departure's way from the writer to the board. Rules: section 23.
 --   AllPoints points         each symbol of the field as a point, in order
 --   multiplicity, height, wanted    the m, l and t that the board asks with; disturbedMost  how many symbols may then be disturbed
---   Sailed d count heard     the departure was written, its six symbols encoded at all points, the first `count` symbols of the word and no
---                            other disturbed, and this is what is heard of the word that was received. blank, empty and room are the
---                            rooms that the jobs were lent
+--   Disturbs count xs ys     the first `count` symbols of a word came out as other symbols of the field, and the rest as they were
+--   Sailed d count heard     the departure was written, its six symbols encoded at all points, the word disturbed, and this is what is heard
+--                            of the word that was received. blank, empty and room are the rooms that the jobs were lent
 use mathlib.Core.Path.{_≡_}
 use mathlib.Core.List.{List}
 use Prim.Native.Nat.{ℕ, _≤_, _<_}
@@ -33,6 +33,11 @@ wanted = 16
 abbrev pub disturbedMost : ℕ
 disturbedMost = 15
 
+pub record Disturbs (count : ℕ) (before after : List ℕ) : Type 0 where
+  pub changed : disturbed (length before) before after ≡ count
+  pub symbols : (s : ℕ) → s < count → getD after s 0 < departureField
+  pub rest : Untouched count before after
+
 pub record Sailed (d : Departure) (count : ℕ) (heard : Heard) : Type 0 where
   pub blank : List ℕ
   pub message : List ℕ
@@ -42,9 +47,9 @@ pub record Sailed (d : Departure) (count : ℕ) (heard : Heard) : Type 0 where
   pub empty : List ℕ
   pub sent : List ℕ
   pub encoded : Encoded departureField points (take departureSymbols message) empty sent 0
+  pub whole : length sent ≡ departureField
   pub received : List ℕ
-  pub changed : disturbed departureField sent received ≡ count
-  pub rest : Untouched count sent received
+  pub disturbs : Disturbs count sent received
   pub room : List ℕ
   pub enough : workingRoom ≤ length room
   pub cleared : List ℕ

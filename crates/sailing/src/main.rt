@@ -1,11 +1,10 @@
 // A departure's way from the writer to the board: written, encoded, disturbed by the radio, heard and printed.
 ghost use mathlib.Core.Path.{_≡_};
-ghost use Prim.Native.Nat.{_≤_};
+ghost use Prim.Native.Nat.{_≤_, _<_};
 ghost use lib.ListN.{length};
-ghost use Rattle.poly.specs.Lent.{Untouched};
 ghost use Rattle.departures.specs.Departures.{InRange, departureField};
-ghost use Rattle.departures.specs.Hearing.{disturbed, Hears};
-ghost use Rattle.sailing.specs.Voyage.{AllPoints, Sailed, disturbedMost};
+ghost use Rattle.departures.specs.Hearing.{Hears};
+ghost use Rattle.sailing.specs.Voyage.{AllPoints, Disturbs, Sailed, disturbedMost};
 use departures::Departure;
 use departures::Heard;
 use departures::limits::DEPARTURE_FIELD;
@@ -40,9 +39,9 @@ fn all_points() -> [u8; POINTS]
     points
 }
 
-// A symbol that the radio got wrong.
+// Another symbol: the radio got this one wrong.
 fn wrong(symbol: u8) -> u8
-    ensures { λ r. ⌜ (r ≡ symbol → ⊥) ⌝ }
+    ensures { λ r. ⌜ (r ≡ symbol → ⊥) × (r < departureField) ⌝ }
 {
     ((symbol as u16 + 1) % DEPARTURE_FIELD as u16) as u8
 }
@@ -50,8 +49,7 @@ fn wrong(symbol: u8) -> u8
 // The first `count` symbols come out wrong, and no other.
 fn disturb(word: &mut [u8], count: usize)
     requires { ⌜ count ≤ length (now word) ⌝ }
-    ensures { λ _. ⌜ Untouched count (now (word .entry)) (now (word .exit)) ⌝ }
-    ensures { λ _. ⌜ disturbed (length (now (word .entry))) (now (word .entry)) (now (word .exit)) ≡ count ⌝ }
+    ensures { λ _. ⌜ Disturbs count (now (word .entry)) (now (word .exit)) ⌝ }
 {
     let mut s = 0;
     while s < count {

@@ -48,7 +48,11 @@ returns c =
     let l = c .before .loop in
     let e : l .s ≡ start .args .count = omega arith in
     let wrong = rw e at (l .inv .1) in
-    (wrong .rest, wrong-disturbed wrong (length (start .args .word .now)) (start .pre))
+    record {
+      changed = wrong-disturbed wrong (length (start .args .word .now)) (start .pre);
+      symbols = wrong .symbols;
+      rest = wrong .rest;
+    }
 
 pub disturb-spec : {M : Type 1} → statement M
 disturb-spec =
