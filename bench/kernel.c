@@ -1,4 +1,5 @@
-/* Times the two row updates of crates/kernels on 64 symbols of the field of 31, and compares their bytes over all fields. */
+/* Times the two row updates of crates/kernels on 64 symbols of the field of 31, and compares their bytes over all fields. Times the inverse against
+   the same power with remainders, and looks whether it is one at all symbols of all fields. */
 #include "fields.h"
 #include <stdio.h>
 #include <stdlib.h>
@@ -8,6 +9,8 @@
 /* A slice is passed as its address and its length. */
 typedef void kernel(uint8_t *rows, size_t rows_len, size_t to, size_t from, size_t len, uint8_t c, uint8_t p);
 kernel kernel_subtract, kernel_remainder;
+typedef uint8_t inverse(uint8_t a, uint8_t p);
+inverse kernel_inverse;
 
 enum { P = 31, SYMBOLS = 64, ROOM = 2 * SYMBOLS, CALLS = 20000, ROUNDS = 50 };
 
@@ -39,30 +42,86 @@ static void compare(void) {
     printf("same bytes in %ld cases\n", cases);
 }
 
+/* Each symbol of each field times its inverse is 1, and the inverse of 0 is 0. */
+static void invert(void) {
+    int symbols = 0;
+    for (size_t f = 0; f < sizeof FIELDS; f++) {
+        uint8_t p = FIELDS[f];
+        for (uint8_t a = 0; a < p; a++) {
+            uint8_t b = kernel_inverse(a, p);
+            if (a == 0 ? b != 0 : b >= p || a * b % p != 1) {
+                printf("no inverse: p=%d a=%d gives %d\n", p, a, b);
+                exit(1);
+            }
+            symbols++;
+        }
+    }
+    printf("%d inverses are right\n", symbols);
+}
+
+static double elapsed(void) {
+    struct timespec t;
+    clock_gettime(CLOCK_MONOTONIC, &t);
+    return (double)t.tv_sec * 1e9 + (double)t.tv_nsec;
+}
+
 /* Nanoseconds per symbol in one round of calls. */
 static double round_of(kernel *k) {
     static uint8_t rows[ROOM];
-    struct timespec begin, end;
     fill(rows, P);
-    clock_gettime(CLOCK_MONOTONIC, &begin);
+    double begin = elapsed();
     for (int i = 0; i < CALLS; i++) k(rows, ROOM, 0, SYMBOLS, SYMBOLS, (uint8_t)(1 + i % (P - 1)), P);
-    clock_gettime(CLOCK_MONOTONIC, &end);
-    double ns = (double)(end.tv_sec - begin.tv_sec) * 1e9 + (double)(end.tv_nsec - begin.tv_nsec);
-    return ns / ((double)CALLS * SYMBOLS);
+    return (elapsed() - begin) / ((double)CALLS * SYMBOLS);
+}
+
+/* The power p - 2 by squaring, with a remainder for each product. */
+__attribute__((noinline)) static uint8_t remainder_inverse(uint8_t a, uint8_t p) {
+    unsigned result = 1, base = a;
+    for (unsigned left = p - 2u; left > 0; left /= 2) {
+        if (left % 2 == 1) result = result * base % p;
+        base = base * base % p;
+    }
+    return (uint8_t)result;
+}
+
+/* Nanoseconds per inverse in one round of calls, each of which waits for the answer of the one before. */
+static double waiting_round(inverse *of) {
+    uint8_t a = 2;
+    double begin = elapsed();
+    for (int i = 0; i < CALLS; i++) a = of(a, P);
+    double ns = (elapsed() - begin) / CALLS;
+    if (a != 2) printf("the inverse of an inverse is not the symbol\n"), exit(1);
+    return ns;
+}
+
+/* The same where none waits. */
+static double loose_round(inverse *of) {
+    double begin = elapsed();
+    for (int i = 0; i < CALLS; i++) of((uint8_t)(1 + i % (P - 1)), P);
+    return (elapsed() - begin) / CALLS;
+}
+
+static void least(double *best, double ns) {
+    if (ns < *best) *best = ns;
 }
 
 int main(void) {
-    double fast = 1e9, plain = 1e9;
+    double fast = 1e9, plain = 1e9, waiting = 1e9, loose = 1e9, divided = 1e9;
     compare();
-    /* in turns, so that both see the same machine; the fastest round of each counts */
+    invert();
+    /* in turns, so that all see the same machine; the fastest round of each counts */
     for (int i = 0; i < ROUNDS; i++) {
-        double f = round_of(kernel_subtract), r = round_of(kernel_remainder);
-        if (f < fast) fast = f;
-        if (r < plain) plain = r;
+        least(&fast, round_of(kernel_subtract));
+        least(&plain, round_of(kernel_remainder));
+        least(&waiting, waiting_round(kernel_inverse));
+        least(&divided, waiting_round(remainder_inverse));
+        least(&loose, loose_round(kernel_inverse));
     }
-    double ratio = plain / fast;
     printf("kernel_subtract   %.3f ns a symbol\n", fast);
     printf("kernel_remainder  %.3f ns a symbol\n", plain);
-    printf("ratio=%.1f\n", ratio);
-    return ratio < 5.0;
+    printf("ratio=%.1f\n", plain / fast);
+    printf("kernel_inverse    %.1f ns where each waits for the one before, %.1f ns where none waits\n", waiting, loose);
+    printf("with remainders   %.1f ns where each waits for the one before\n", divided);
+    printf("ratio=%.1f\n", divided / waiting);
+    return plain / fast < 5.0 || divided / waiting < 1.0;
 }

@@ -1,7 +1,17 @@
-// The row update for a measurement in C: as the field crate has it, and with a plain remainder.
+// For a measurement in C: the inverse, and the row update as the field crate has it and with a plain remainder.
 ghost use mathlib.Core.Path.{_≡_};
+ghost use Rattle.field.specs.Operations.{Operand, invByte};
 ghost use Rattle.field.specs.Kernels.{Subtracts, subtracted};
 use field::Symbol;
+
+#[no_mangle]
+pub extern "C" fn kernel_inverse(a: u8, p: u8) -> u8
+    requires { ⌜ Operand p a ⌝ }
+    ensures { λ r. ⌜ r ≡ invByte p a ⌝ }
+{
+    let inverse = Symbol { value: a }.inverse(p);
+    inverse.value
+}
 
 #[no_mangle]
 pub extern "C" fn kernel_subtract(rows: &mut [u8], to: usize, from: usize, len: usize, c: u8, p: u8)
