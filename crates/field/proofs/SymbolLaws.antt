@@ -1,19 +1,19 @@
 -- The symbols of a listed p are a field, and `symbol` carries the code's arithmetic over to them.
-use mathlib.Core.Path.{_≡_, refl, sym, ap, subst, _∙_}
-use mathlib.Core.Logic.{_≢_, ⊎-elim}
+use mathlib.Core.Path.{_≡_, refl, sym, ap, _∙_}
+use mathlib.Core.Logic.{_≢_}
 use mathlib.Core.Bool.{Bool, true}
 use mathlib.Core.HLevel.{hedberg}
 use Prim.Native.Nat.{ℕ, _+_, _-_, _*_, _/_, _%_, _<_}
 use native.Mathlib.Nat.{add-assoc, add-comm, add-zero, mul-comm, mul-assoc, mul-one, mul-add, add-mul, mod-lt, mod-eq-of-lt, mod-add-mod}
 use native.Mathlib.Nat.{add-mod-mod, mod-self, zero-mod, div-add-mod, mul-add-mod-self-left}
 use native.Mathlib.Omega.{arith}
-use lib.Dec.{T, eqb, eqb→eq}
+use lib.Dec.{T, eqb, eqb→eq, ltb, ltb→lt}
 use Rattle.field.specs.Field.{RingLaws, FieldLaws}
-use Rattle.field.specs.Symbols.{or, listed, Element, symbol, same-byte, inverseNumber, sumOf, productOf, negativeOf, inverseOf}
+use Rattle.field.specs.Symbols.{or, sizes, listed, Element, symbol, same-byte, inverseNumber, sumOf, productOf, negativeOf, inverseOf}
 use Rattle.field.specs.Symbols.{sameSymbol, symbols}
 use Rattle.field.specs.Operations.{Listed}
 use Rattle.field.proofs.FieldLaws.{cancel}
-use Rattle.field.proofs.Tests.{all, all-at, or-cases, or-right}
+use Rattle.field.proofs.Tests.{all, all-at, allIn, all-in-at, or-right}
 
 -- remainders of products
 pub mod-mul : (a b m : ℕ) → a % m * b % m ≡ a * b % m
@@ -23,16 +23,10 @@ mod-mul a b m =
 pub mul-mod : (a b m : ℕ) → a * (b % m) % m ≡ a * b % m
 mul-mod a b m = rw (mul-comm a (b % m), mod-mul b a m, mul-comm b a)
 
--- what holds at each of the ten holds at any listed p
-step : (P : ℕ → Type 0) (p k : ℕ) (b : Bool) → P k → (T b → P p) → T (or (eqb p k) b) → P p
-step P p k b y n t = ⊎-elim (λ (u : T (eqb p k)). subst P (sym (eqb→eq p k u)) y) n (or-cases (eqb p k) b t)
-
-pub at-listed : (P : ℕ → Type 0) → P 3 → P 5 → P 7 → P 11 → P 13 → P 17 → P 19 → P 23 → P 29 → P 31 → (p : ℕ) → T (listed p) → P p
+-- a test that passes at each of the sizes passes at any listed p
+pub at-listed : (f : ℕ → Bool) → T (allIn sizes f) → (p : ℕ) → T (listed p) → T (f p)
 unfolding listed
-at-listed P p3 p5 p7 p11 p13 p17 p19 p23 p29 p31 p t =
-    step P p 3 _ p3 (step P p 5 _ p5 (step P p 7 _ p7 (step P p 11 _ p11 (step P p 13 _ p13
-    (step P p 17 _ p17 (step P p 19 _ p19 (step P p 23 _ p23 (step P p 29 _ p29 (step P p 31 _ p31 absurd)))))))))
-    t
+at-listed = all-in-at sizes
 
 -- the test brings the bounds
 pub is-listed : {p : ℕ} → listed p ≡ true → Listed p
@@ -40,10 +34,8 @@ is-listed {p} e =
     let t : T (listed p) = rw e tt in
     record {
       is = t;
-      small = at-listed (λ p. p < 32) (omega arith) (omega arith) (omega arith) (omega arith) (omega arith) (omega arith) (omega arith)
-          (omega arith) (omega arith) (omega arith) p t;
-      large = at-listed (λ p. 2 < p) (omega arith) (omega arith) (omega arith) (omega arith) (omega arith) (omega arith) (omega arith) (omega arith)
-          (omega arith) (omega arith) p t;
+      small = ltb→lt p 32 (at-listed (λ p. ltb p 32) tt p t);
+      large = ltb→lt 2 p (at-listed (λ p. ltb 2 p) tt p t);
     }
 
 -- a remainder by p is a byte
@@ -154,7 +146,7 @@ abbrev inverted : ℕ → ℕ → Bool
 inverted p x = or (eqb x 0) (eqb (x * inverseNumber p x % p) 1)
 
 invertible : (p : ℕ) → T (listed p) → T (all p (inverted p))
-invertible = at-listed (λ p. T (all p (inverted p))) tt tt tt tt tt tt tt tt tt tt
+invertible = at-listed (λ p. all p (inverted p)) tt
 
 module _ {p : ℕ} (l : Listed p) where
   some : 0 < p
@@ -182,7 +174,7 @@ module _ {p : ℕ} (l : Listed p) where
   -- the inverse of 0 is given as 0
   pub inverse-zero : inverseOf p (symbol p 0) ≡ symbol p 0
   unfolding inverseOf symbol
-  inverse-zero = at-listed (λ p. inverseOf p (symbol p 0) ≡ symbol p 0) refl refl refl refl refl refl refl refl refl refl p (l .is)
+  inverse-zero = zero-is p (eqb→eq _ 0 (at-listed (λ p. eqb (inverseOf p (symbol p 0) .byte) 0) tt p (l .is)))
 
 pub symbols-field : (p : ℕ) → Listed p → FieldLaws (symbols p)
 symbols-field p l = record { ring = symbols-ring p (some l); inverse = product-inverse l; one≢zero = one≢zero l }
