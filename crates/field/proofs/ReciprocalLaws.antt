@@ -37,5 +37,12 @@ module _ {p : ℕ} (l : Listed p) where
       let a = mul-le-mul {n₁ = 3} {m₁ = 65536 / p} {n₂ = p} {m₂ = 65536 / p} (omega (arith, l .large)) (omega arith) in
       omega (arith, a, div-add-mod 65536 p)
 
+-- a product of two symbols is reducible, and a third may be added to it
+pub small-product : (a b : ℕ) → a < 32 → b < 32 → a * b ≤ 961
+small-product a b h k = mul-le-mul {n₁ = a} {m₁ = b} {n₂ = 31} {m₂ = 31} (omega arith) (omega arith)
+
+pub reducible-product : (a b : ℕ) → a < 32 → b < 32 → a * b < reducible
+reducible-product a b h k = omega (arith, small-product a b h k)
+
 pub remainder : (z p : ℕ) → z - z / p * p ≡ z % p
 remainder z p = sym (mod-eq-sub-div-mul z p)

@@ -74,19 +74,23 @@ impl Symbol {
         ensures { λ r. ⌜ r .value ≡ timesBytes p (self .value) (other .value) ⌝ }
     {
         let x = self.value as u16 * other.value as u16;
-        let y = x % (p as u16);
-        Symbol { value: y as u8 }
+        let g = reciprocal(p);
+        Symbol {
+            value: reduce(x, p, g),
+        }
     }
 
-    // self plus x times y, with one division.
+    // self plus x times y, reduced once.
     pub fn plus_product(self, x: Symbol, y: Symbol, p: u8) -> Symbol
         requires { ⌜ Operand p (self .value) ⌝ }
         requires { ⌜ Operands p (x .value) (y .value) ⌝ }
         ensures { λ r. ⌜ r .value ≡ plusBytes p (self .value) (timesBytes p (x .value) (y .value)) ⌝ }
     {
         let z = self.value as u16 + x.value as u16 * y.value as u16;
-        let r = z % (p as u16);
-        Symbol { value: r as u8 }
+        let g = reciprocal(p);
+        Symbol {
+            value: reduce(z, p, g),
+        }
     }
 
     // The inverse of 0 is given as 0.

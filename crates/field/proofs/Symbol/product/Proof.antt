@@ -1,11 +1,10 @@
--- `field::Symbol::product` meets its contract.
-use mathlib.Core.Path.{sym}
-use Prim.Native.Nat.{ℕ, _<_, _*_}
+-- `field::Symbol::product` meets its contract: a product of two symbols is reducible.
+use mathlib.Core.Path.{sym, _∙_}
+use Prim.Native.Nat.{ℕ, _≤_, _<_}
 use native.Mathlib.Omega.{arith}
-use native.Mathlib.Nat.{mul-le-mul}
 use borrow.Author.Needs.{needs}
-use Rattle.field.proofs.SymbolLaws.{remainder-byte}
 use Rattle.field.proofs.OperationLaws.{times-mod}
+use Rattle.field.proofs.ReciprocalLaws.{small-product, reducible-product}
 use Rattle.field.proofs.Symbol.product.Statement.{statement}
 use Rattle.field.proofs.Symbol.product.Tie as tie
 
@@ -15,21 +14,24 @@ cast-x c = search needs
 cast-x-2 : tie.Need-cast-x-2
 cast-x-2 c = search needs
 
--- two bytes have a product of two bytes
-small : (a b : ℕ) → a < 256 → b < 256 → a * b < 65536
-small a b h k = omega (arith, mul-le-mul {n₁ = a} {m₁ = b} {n₂ = 255} {m₂ = 255} (omega arith) (omega arith))
+fits : (z : ℕ) → z ≤ 961 → z < 65536
+fits z h = omega arith
 
 mul-x : tie.Need-mul-x
-mul-x c = record { fits = small _ _ (search needs) (search needs) }
+mul-x c = record { fits = fits _ (small-product _ _ (search needs) (search needs)) }
 
-rem-y : tie.Need-rem-y
-rem-y c = search needs
+reciprocal-requires : tie.Need-reciprocal-requires
+reciprocal-requires c κs = search needs
 
-cast-t8 : tie.Need-cast-t8
-cast-t8 c = record { fits = remainder-byte _ (c .before .before .pre .size) }
+reduce-requires : tie.Need-reduce-requires
+reduce-requires c κs =
+    let s = c .before .before .before in
+    record { size = s .pre .size; reciprocal = c .reciprocal .ensures; low = reducible-product _ _ (search needs) (search needs) }
 
 returns : tie.Need-returns
-returns c = let a = c .before .before .args in sym (times-mod (a .p) (a .self .value) (a .other .value))
+returns c =
+    let a = c .before .before .before .before .args in
+    c .reduce .ensures ∙ sym (times-mod (a .p) (a .self .value) (a .other .value))
 
 pub product-spec : {M : Type 1} → statement M
-product-spec = tie.close (tie.spec cast-x cast-x-2 mul-x rem-y cast-t8 returns)
+product-spec = tie.close (tie.spec cast-x cast-x-2 mul-x reciprocal-requires reduce-requires returns)
