@@ -3,8 +3,9 @@ use mathlib.Core.Path.{_≡_}
 use Prim.Native.Nat.{ℕ, _+_, _-_, _*_, _%_, _<_}
 use native.Mathlib.Nat.{mod-eq-of-lt, mod-add-mod, add-mod-mod}
 use native.Mathlib.Omega.{arith}
-use Rattle.field.specs.Symbols.{symbol, sumOf, productOf, negativeOf, inverseOf}
-use Rattle.field.specs.Operations.{plusBytes, minusBytes, timesBytes, negByte, invByte, Listed}
+use Rattle.field.specs.Field.{pow}
+use Rattle.field.specs.Symbols.{symbol, sumOf, productOf, negativeOf, inverseOf, symbols}
+use Rattle.field.specs.Operations.{plusBytes, minusBytes, timesBytes, negByte, invByte, powByte, Listed}
 use Rattle.field.proofs.RingLaws.{neg-mul}
 use Rattle.field.proofs.SymbolLaws.{mod-mul, mul-mod, byte-symbol, symbol-byte, symbol-plus, symbol-times, symbol-opposite, symbols-ring}
 use Rattle.field.proofs.SymbolLaws.{byte-below}
@@ -26,6 +27,10 @@ module _ (p : ℕ) where
   pub symbol-invByte : (a : ℕ) → symbol p (invByte p a) ≡ inverseOf p (symbol p a)
   unfolding invByte
   symbol-invByte a = symbol-byte p _
+
+  pub symbol-powByte : (a n : ℕ) → symbol p (powByte p a n) ≡ pow (symbols p .ring) (symbol p a) n
+  unfolding powByte
+  symbol-powByte a n = symbol-byte p _
 
   -- as remainders
   pub plus-mod : (a b : ℕ) → plusBytes p a b ≡ (a + b) % p
@@ -79,3 +84,7 @@ module _ {p : ℕ} (l : Listed p) where
   pub invByte-below : (a : ℕ) → invByte p a < p
   unfolding invByte
   invByte-below a = byte-below l (inverseOf p (symbol p a))
+
+  pub powByte-below : (a n : ℕ) → powByte p a n < p
+  unfolding powByte
+  powByte-below a n = byte-below l (pow (symbols p .ring) (symbol p a) n)

@@ -1,11 +1,10 @@
 // Symbols: the numbers 0 to p-1, one byte each, where p is one of the ten field sizes.
 ghost use mathlib.Core.Path.{_≡_};
-ghost use Prim.Native.Nat.{_+_, _/_, _%_};
+ghost use Prim.Native.Nat.{_+_, _/_, _%_, _<_};
 ghost use Rattle.field.specs.Symbols.{listed, symbols};
-ghost use Rattle.field.specs.Operations.{Operand, Operands, plusBytes, minusBytes, timesBytes, negByte, invByte, Listed};
+ghost use Rattle.field.specs.Operations.{Operand, Operands, plusBytes, minusBytes, timesBytes, negByte, invByte, powByte, Listed};
 ghost use Rattle.field.specs.Kernels.{Subtracts, Scales, Reduces, subtracted, scaled};
 
-mod inverses; // inverses.rt: the table of inverses
 mod products; // products.rt: sums of products
 
 pub use products::convolve;
@@ -93,15 +92,43 @@ impl Symbol {
         }
     }
 
-    // The inverse of 0 is given as 0.
+    // What the last bit of an exponent asks for: self where it is 1, one where it is 0.
+    fn factor(self, exponent: u8, p: u8) -> Symbol
+        requires { ⌜ Operand p (self .value) ⌝ }
+        ensures { λ r. ⌜ r .value ≡ powByte p (self .value) (exponent % 2) ⌝ }
+    {
+        if exponent % 2 == 0 {
+            return Symbol::ONE;
+        }
+        self
+    }
+
+    // By squaring. Five steps for every exponent, so that no branch hangs on its bits.
+    fn power(self, exponent: u8, p: u8) -> Symbol
+        requires { ⌜ Operand p (self .value) ⌝ }
+        requires { ⌜ exponent < 32 ⌝ }
+        ensures { λ r. ⌜ r .value ≡ powByte p (self .value) exponent ⌝ }
+    {
+        let mut result = Symbol::ONE;
+        let mut base = self;
+        let mut left = exponent;
+        let mut steps = 5u8;
+        while 0 < steps {
+            let factor = base.factor(left, p);
+            result = result.product(factor, p);
+            base = base.product(base, p);
+            left = left / 2;
+            steps -= 1;
+        }
+        result
+    }
+
+    // The power p - 2. The inverse of 0 is given as 0.
     pub fn inverse(self, p: u8) -> Symbol
         requires { ⌜ Operand p (self .value) ⌝ }
         ensures { λ r. ⌜ r .value ≡ invByte p (self .value) ⌝ }
     {
-        let i = p as usize * 32 + self.value as usize;
-        Symbol {
-            value: inverses::INVERSES[i],
-        }
+        self.power(p - 2, p)
     }
 }
 
