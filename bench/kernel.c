@@ -75,7 +75,7 @@ static double round_of(kernel *k) {
 }
 
 /* The power p - 2 by squaring, with a remainder for each product. */
-__attribute__((noinline)) static uint8_t remainder_inverse(uint8_t a, uint8_t p) {
+__attribute__((noipa)) static uint8_t remainder_inverse(uint8_t a, uint8_t p) {
     unsigned result = 1, base = a;
     for (unsigned left = p - 2u; left > 0; left /= 2) {
         if (left % 2 == 1) result = result * base % p;
