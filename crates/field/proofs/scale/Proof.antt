@@ -1,11 +1,11 @@
 -- `field::scale` meets its contract. The loop's invariant: the first i symbols of the region are done. m is the factor.
 use mathlib.Core.Path.{_≡_, refl, sym}
 use Prim.Native.Nat.{ℕ, _+_, _-_, _*_, _<_, _≤_}
-use native.Mathlib.Nat.{mul-le-mul}
 use native.Mathlib.Omega.{arith}
 use lib.ListN.{length, getD, length-set}
 use borrow.Author.Needs.{needs}
 use Rattle.field.specs.Kernels.{scaled}
+use Rattle.field.proofs.ReciprocalLaws.{small-product}
 use Rattle.field.proofs.KernelLaws.{scaled-zero, scaled-next-below, scaled-more}
 use Rattle.field.proofs.scale.Statement.{statement}
 use Rattle.field.proofs.scale.Tie as tie
@@ -27,7 +27,7 @@ module _ (c : tie.In-loop Inv-loop μ-loop) where
   x-below = scaled-next-below (s .pre) (c .before .loop .i) (c .loop-test .taken) (c .before .loop .inv .2)
 
   product-small : s .args .c .value * x ≤ 961
-  product-small = mul-le-mul {n₂ = 31} {m₂ = 31} (omega arith) (omega (arith, x-below))
+  product-small = small-product (s .args .c .value) x (omega arith) (omega (arith, x-below))
 
 reciprocal-requires : tie.Need-reciprocal-requires Inv-loop μ-loop
 reciprocal-requires c κs = search needs

@@ -2,11 +2,11 @@
 use mathlib.Core.Path.{_≡_, refl, sym, ap, subst, _∙_}
 use mathlib.Core.List.{List}
 use Prim.Native.Nat.{ℕ, _+_, _-_, _*_, _<_, _≤_}
-use native.Mathlib.Nat.{mul-le-mul}
 use native.Mathlib.Omega.{arith}
 use lib.ListN.{length, getD, length-set}
 use borrow.Author.Needs.{needs}
 use Rattle.field.specs.Kernels.{subtracted}
+use Rattle.field.proofs.ReciprocalLaws.{small-product}
 use Rattle.field.proofs.KernelLaws.{subtracted-zero, subtracted-more, subtracted-keeps}
 use Rattle.field.proofs.subtract.Statement.{statement}
 use Rattle.field.proofs.subtract.Tie as tie
@@ -42,7 +42,7 @@ module _ (c : tie.In-loop Inv-loop μ-loop) where
   y-below = kept _ (s .pre .source .below (c .before .loop .i) (c .loop-test .taken))
 
   product-small : (m : ℕ) → m ≤ 31 → m * y ≤ 961
-  product-small m h = mul-le-mul {n₂ = 31} {m₂ = 31} h (omega (arith, y-below))
+  product-small m h = small-product m y (omega arith) (omega (arith, y-below))
 
 reciprocal-requires : tie.Need-reciprocal-requires Inv-loop μ-loop
 reciprocal-requires c κs = search needs

@@ -1,12 +1,12 @@
 -- `kernels::kernel_remainder` meets its contract. The loop's invariant: the first i symbols of the region are done.
 use mathlib.Core.Path.{_≡_, refl, sym}
 use Prim.Native.Nat.{ℕ, _+_, _-_, _*_, _<_, _≤_}
-use native.Mathlib.Nat.{mul-le-mul}
 use native.Mathlib.Omega.{arith}
 use lib.ListN.{length, getD, length-set}
 use borrow.Author.Needs.{needs}
 use Rattle.field.specs.Kernels.{subtracted}
 use Rattle.field.proofs.SymbolLaws.{remainder-byte}
+use Rattle.field.proofs.ReciprocalLaws.{small-product}
 use Rattle.field.proofs.KernelLaws.{subtracted-zero, target-below, source-below, subtracted-more}
 use Rattle.kernels.proofs.kernel_remainder.Statement.{statement}
 use Rattle.kernels.proofs.kernel_remainder.Tie as tie
@@ -35,7 +35,7 @@ module _ (c : tie.In-loop Inv-loop μ-loop) where
   y-below = source-below (s .pre) (c .before .loop .i) (c .loop-test .taken) (c .before .loop .inv .3)
 
   product-small : (m : ℕ) → m ≤ 31 → m * y ≤ 961
-  product-small m h = mul-le-mul {n₂ = 31} {m₂ = 31} h (omega (arith, y-below))
+  product-small m h = small-product m y (omega arith) (omega (arith, y-below))
 
 sub-m : tie.Need-sub-m Inv-loop μ-loop
 sub-m c = search needs

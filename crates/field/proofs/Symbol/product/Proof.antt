@@ -1,10 +1,11 @@
 -- `field::Symbol::product` meets its contract: a product of two symbols is reducible.
 use mathlib.Core.Path.{sym, _∙_}
-use Prim.Native.Nat.{ℕ, _≤_, _<_}
+use Prim.Native.Nat.{ℕ, _<_}
 use native.Mathlib.Omega.{arith}
 use borrow.Author.Needs.{needs}
+use Rattle.field.specs.Kernels.{reducible}
 use Rattle.field.proofs.OperationLaws.{times-mod}
-use Rattle.field.proofs.ReciprocalLaws.{small-product, reducible-product}
+use Rattle.field.proofs.ReciprocalLaws.{reducible-product}
 use Rattle.field.proofs.Symbol.product.Statement.{statement}
 use Rattle.field.proofs.Symbol.product.Tie as tie
 
@@ -14,11 +15,11 @@ cast-x c = search needs
 cast-x-2 : tie.Need-cast-x-2
 cast-x-2 c = search needs
 
-fits : (z : ℕ) → z ≤ 961 → z < 65536
+fits : (z : ℕ) → z < reducible → z < 65536
 fits z h = omega arith
 
 mul-x : tie.Need-mul-x
-mul-x c = record { fits = fits _ (small-product _ _ (search needs) (search needs)) }
+mul-x c = record { fits = fits _ (reducible-product _ _ (search needs) (search needs)) }
 
 reciprocal-requires : tie.Need-reciprocal-requires
 reciprocal-requires c κs = search needs
