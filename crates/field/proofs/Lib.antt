@@ -6,7 +6,6 @@ pub mod Tests
 pub mod Lists
 pub mod SymbolLaws
 pub mod OperationLaws
-pub mod PowerLaws
 pub mod ReciprocalLaws
 pub mod KernelLaws
 pub mod Convolutions

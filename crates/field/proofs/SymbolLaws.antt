@@ -8,7 +8,7 @@ use native.Mathlib.Nat.{add-assoc, add-comm, add-zero, mul-comm, mul-assoc, mul-
 use native.Mathlib.Nat.{add-mod-mod, mod-self, zero-mod, div-add-mod, mul-add-mod-self-left}
 use native.Mathlib.Omega.{arith}
 use lib.Dec.{T, eqb, eqb→eq, ltb, ltb→lt}
-use Rattle.field.specs.Field.{RingLaws, FieldLaws}
+use Rattle.field.specs.Field.{RingLaws, FieldLaws, pow}
 use Rattle.field.specs.Symbols.{or, sizes, listed, Element, symbol, same-byte, inverseNumber, sumOf, productOf, negativeOf, inverseOf}
 use Rattle.field.specs.Symbols.{sameSymbol, symbols}
 use Rattle.field.specs.Operations.{Listed}
@@ -185,3 +185,17 @@ pub exactly-one-inverse : (p : ℕ) → Listed p → (a : Element p) → a ≢ s
 exactly-one-inverse p l a n =
     let e = product-inverse l a n in
     (inverseOf p a, e, λ c d. cancel (symbols-field p l) a c (inverseOf p a) n (d ∙ sym e))
+
+-- the power p - 2 of a symbol is its inverse: antt computes it at every symbol of every field of the list
+powerInverts : ℕ → ℕ → Bool
+powerInverts p x = eqb (pow (symbols p .ring) (symbol p x) (p - 2) .byte) (inverseOf p (symbol p x) .byte)
+
+powers-invert : (p : ℕ) → T (listed p) → T (all p (powerInverts p))
+unfolding powerInverts pow productOf inverseOf symbol
+powers-invert = at-listed (λ p. all p (powerInverts p)) tt
+
+pub power-inverse : {p : ℕ} → Listed p → (a : Element p) → pow (symbols p .ring) a (p - 2) ≡ inverseOf p a
+unfolding powerInverts
+power-inverse {p} l a =
+    let test : T (powerInverts p (a .byte)) = all-at p (powerInverts p) (powers-invert p (l .is)) (a .byte) (byte-below l a) in
+    same-byte p (rw (symbol-byte p a) at (eqb→eq (pow (symbols p .ring) (symbol p (a .byte)) (p - 2) .byte) _ test))

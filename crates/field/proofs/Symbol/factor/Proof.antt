@@ -4,9 +4,8 @@ use Prim.Native.Nat.{ℕ, _%_}
 use native.Mathlib.Omega.{arith}
 use Rattle.field.specs.Symbols.{symbol, symbols}
 use Rattle.field.specs.Operations.{Operand, powByte}
-use Rattle.field.proofs.Sums.{pow-zero}
+use Rattle.field.proofs.Sums.{pow-zero, pow-one}
 use Rattle.field.proofs.SymbolLaws.{symbol-own, symbols-field}
-use Rattle.field.proofs.PowerLaws.{pow-one}
 use Rattle.field.proofs.Symbol.factor.Statement.{statement}
 use Rattle.field.proofs.Symbol.factor.Tie as tie
 

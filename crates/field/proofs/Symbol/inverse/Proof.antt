@@ -3,7 +3,7 @@ use mathlib.Core.Path.{ap, _∙_}
 use borrow.Author.Needs.{needs}
 use Rattle.field.specs.Symbols.{Element, symbol}
 use Rattle.field.specs.Operations.{invByte, powByte}
-use Rattle.field.proofs.PowerLaws.{power-inverse}
+use Rattle.field.proofs.SymbolLaws.{power-inverse}
 use Rattle.field.proofs.Symbol.inverse.Statement.{statement}
 use Rattle.field.proofs.Symbol.inverse.Tie as tie
 

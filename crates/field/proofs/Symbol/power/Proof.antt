@@ -9,10 +9,9 @@ use Rattle.field.specs.Field.{RingLaws, pow}
 use Rattle.field.specs.Symbols.{Element, symbol, symbols, productOf}
 use Rattle.field.specs.Operations.{Listed, timesBytes, powByte}
 use Rattle.field.proofs.RingLaws.{mul-assoc, mul-one, one-mul}
-use Rattle.field.proofs.Sums.{pow-zero}
+use Rattle.field.proofs.Sums.{pow-zero, pow-halved}
 use Rattle.field.proofs.SymbolLaws.{byte-is, symbols-field}
 use Rattle.field.proofs.OperationLaws.{symbol-timesBytes, symbol-powByte, timesBytes-below, powByte-below}
-use Rattle.field.proofs.PowerLaws.{pow-halved}
 use Rattle.field.proofs.Symbol.power.Statement.{statement}
 use Rattle.field.proofs.Symbol.power.Tie as tie
 
