@@ -1,13 +1,12 @@
 -- A convolution, product by product.
 use mathlib.Core.Path.{_≡_, refl}
 use mathlib.Core.List.{List}
-use Prim.Native.Nat.{ℕ, _+_, _-_, _*_}
+use Prim.Native.Nat.{ℕ, _+_, _-_}
 use native.Mathlib.Numerals.{add-one}
 use lib.ListN.{getD}
 use Rattle.field.specs.Field.{sum}
-use Rattle.field.specs.Symbols.{symbol}
+use Rattle.field.specs.Symbols.{symbol, sumOf, productOf}
 use Rattle.field.specs.Kernels.{convolution}
-use Rattle.field.proofs.SymbolLaws.{symbol-plus, symbol-times}
 
 module _ (p top : ℕ) (f xs : List ℕ) where
   pub convolution-none : symbol p 0 ≡ convolution p top 0 f xs
@@ -15,7 +14,8 @@ module _ (p top : ℕ) (f xs : List ℕ) where
   convolution-none = refl
 
   -- one product more, to a number that stands for the sum so far
-  pub convolution-more : (i n q : ℕ) → symbol p n ≡ convolution p top i f xs → q ≡ getD f i 0 * getD xs (top - i) 0
-      → symbol p (n + q) ≡ convolution p top (i + 1) f xs
+  pub convolution-more : (i n q s : ℕ) → symbol p n ≡ convolution p top i f xs
+      → symbol p q ≡ productOf p (symbol p (getD f i 0)) (symbol p (getD xs (top - i) 0)) → symbol p s ≡ sumOf p (symbol p n) (symbol p q)
+      → symbol p s ≡ convolution p top (i + 1) f xs
   unfolding sum
-  convolution-more i n q is product = rw (add-one i, symbol-plus p n q, is, product, symbol-times p (getD f i 0) (getD xs (top - i) 0))
+  convolution-more i n q s is product added = rw (add-one i, added, is, product)

@@ -1,7 +1,7 @@
 -- What stands where after a row kernel.
 use mathlib.Core.Path.{_≡_, sym, _∙_}
 use mathlib.Core.List.{List}
-use mathlib.Core.Logic.{_⊎_, inl, inr, ⊎-elim}
+use mathlib.Core.Logic.{_⊎_, inl, inr, ⊎-elim, _≢_}
 use Prim.Native.Nat.{ℕ, zero, suc, _+_, _-_, _*_, _%_, _<_, _≤_}
 use native.Mathlib.Numerals.{add-one}
 use native.Mathlib.Decide.{decLt}
@@ -13,7 +13,7 @@ use Rattle.field.specs.Symbols.{symbol, sumOf, productOf, negativeOf}
 use Rattle.field.specs.Operations.{minusBytes, timesBytes, Listed}
 use Rattle.field.specs.Kernels.{Subtracts, Scales, subtracted, scaled}
 use Rattle.field.proofs.Lists.{sets-tabulate-zero, sets-tabulate-suc, sets-tabulate-inside, sets-tabulate-outside}
-use Rattle.field.proofs.OperationLaws.{symbol-minusBytes, symbol-timesBytes, times-mod, minus-times-mod, minusBytes-below, timesBytes-below}
+use Rattle.field.proofs.OperationLaws.{symbol-minusBytes, symbol-timesBytes, minus-times-mod, minusBytes-below, timesBytes-below}
 
 module _ (p c to from : ℕ) (xs : List ℕ) where
   -- the byte that comes to stand at `to + i`
@@ -63,12 +63,15 @@ module _ {p c to from len : ℕ} {xs ys : List ℕ} (a : Subtracts p c to from l
   pub source-below : getD ys (from + i) 0 < p
   source-below = rw source-kept (a .source .below i h)
 
-  pub subtracted-more : {v : ℕ} → v ≡ (getD ys (to + i) 0 + (p - c) * getD ys (from + i) 0) % p
+  pub subtracted-more : {v : ℕ} → v ≡ minusBytes p (getD ys (to + i) 0) (timesBytes p c (getD ys (from + i) 0))
       → set ys (to + i) v ≡ subtracted p c to from (i + 1) xs
   subtracted-more {v} d =
-      let w : v ≡ less p c to from xs i =
-      d ∙ rw (target-kept, source-kept) (sym (minus-times-mod p (getD xs (to + i) 0) (getD xs (from + i) 0) (a .factor))) in
+      let w : v ≡ less p c to from xs i = d ∙ rw (target-kept, source-kept) in
       rw (add-one, subtracted-suc p c to from xs i, ← e, ← w)
+
+  pub subtracted-more-mod : p ≢ 16 → {v : ℕ} → v ≡ (getD ys (to + i) 0 + (p - c) * getD ys (from + i) 0) % p
+      → set ys (to + i) v ≡ subtracted p c to from (i + 1) xs
+  subtracted-more-mod other d = subtracted-more (d ∙ sym (minus-times-mod p other (getD ys (to + i) 0) (getD ys (from + i) 0) (a .factor)))
 
 module _ (p c at : ℕ) (xs : List ℕ) where
   abbrev times : ℕ → ℕ
@@ -109,9 +112,9 @@ module _ {p c at len : ℕ} {xs ys : List ℕ} (a : Scales p c at len xs) (i : �
   pub scaled-next-below : getD ys (at + i) 0 < p
   scaled-next-below = rw scaled-kept (a .target .below i h)
 
-  pub scaled-more : {v : ℕ} → v ≡ c * getD ys (at + i) 0 % p → set ys (at + i) v ≡ scaled p c at (i + 1) xs
+  pub scaled-more : {v : ℕ} → v ≡ timesBytes p c (getD ys (at + i) 0) → set ys (at + i) v ≡ scaled p c at (i + 1) xs
   scaled-more {v} d =
-      let w : v ≡ times p c at xs i = d ∙ rw scaled-kept (sym (times-mod p c (getD xs (at + i) 0))) in
+      let w : v ≡ times p c at xs i = d ∙ rw scaled-kept in
       rw (add-one, scaled-suc p c at xs i, ← e, ← w)
 
 -- bytes below p stay below p, if those in a region come to be so and the others are kept

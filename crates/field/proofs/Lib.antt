@@ -4,6 +4,7 @@ pub mod Sums
 pub mod FieldLaws
 pub mod Tests
 pub mod Lists
+pub mod BitPolynomialLaws
 pub mod SymbolLaws
 pub mod OperationLaws
 pub mod ReciprocalLaws

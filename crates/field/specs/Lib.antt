@@ -1,5 +1,6 @@
 pub mod Field
 pub mod Lists
+pub mod BitPolynomials
 pub mod Symbols
 pub mod Operations
 pub mod Kernels

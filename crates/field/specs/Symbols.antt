@@ -1,10 +1,12 @@
--- The ten fields: the numbers below p, one byte each, with sums and products modulo p. Rules: section 2.
---   or a b              one of the two; among list p  p is among the numbers of a list; sizes  the ten field sizes
---   listed p            whether p is one of the ten
+-- The fields: the numbers below p, one byte each, with sums and products modulo p; at 16 with those of bit polynomials. Rules: section 2.
+--   or a b              one of the two; among list p  p is among the numbers of a list
+--   primes              the odd primes below 32; sizes  the field sizes: these, and 16
+--   listed p            whether p is a field size
 --   Element p           a symbol, that is, a number that is its own remainder modulo p
 --   symbol p n          the symbol of a number; same-byte  symbols of one byte are one symbol
---   sumOf, productOf, negativeOf   the operations: those on numbers, and then the remainder modulo p
 --   select test a b     a where the test passes, else b; find n test  the largest number below n that passes the test, or 0
+--   plusNumber p a b, timesNumber p a b, negativeNumber p a   the operations on numbers; here alone the field of 16 is told from the others
+--   sumOf, productOf, negativeOf   the operations: those on numbers, and then the remainder modulo p
 --   inverseOf           the symbol of inverseNumber p a, the number below p whose product with a leaves 1, or 0 if there is none
 --   sameSymbol          whether two symbols are the same
 --   symbols p           the symbols with their operations; a field where p is listed (proofs/SymbolLaws.antt)
@@ -16,9 +18,11 @@ use mathlib.Core.HLevel.{Σ-prop-path, hedberg}
 use Prim.Native.Nat.{ℕ, zero, suc, _+_, _-_, _*_, _%_}
 use native.Mathlib.Nat.{mod-mod}
 use native.Mathlib.Decide.{ℕ-discrete}
+use lib.Bits.{bitXor}
 use lib.Dec.{eqb}
 use lib.ListN.{getD}
 use Rattle.field.specs.Field.{Field}
+use Rattle.field.specs.BitPolynomials.{bitProduct, bitRemainder}
 
 abbrev pub or : Bool → Bool → Bool
 or true b = true
@@ -28,8 +32,11 @@ abbrev pub among : List ℕ → ℕ → Bool
 among [] p = false
 among (k ∷ ks) p = or (eqb p k) (among ks p)
 
+abbrev pub primes : List ℕ
+primes = 3 ∷ 5 ∷ 7 ∷ 11 ∷ 13 ∷ 17 ∷ 19 ∷ 23 ∷ 29 ∷ 31 ∷ []
+
 abbrev pub sizes : List ℕ
-sizes = 3 ∷ 5 ∷ 7 ∷ 11 ∷ 13 ∷ 17 ∷ 19 ∷ 23 ∷ 29 ∷ 31 ∷ []
+sizes = 16 ∷ primes
 
 unfoldable pub listed : ℕ → Bool
 listed = among sizes
@@ -50,23 +57,31 @@ abbrev pub select : Bool → ℕ → ℕ → ℕ
 select true a b = a
 select false a b = b
 
--- the largest number below n that passes the test, or 0
 abbrev pub find : ℕ → (ℕ → Bool) → ℕ
 find zero t = 0
 find (suc n) t = let r = find n t in select (t n) n r
 
+abbrev pub plusNumber : ℕ → ℕ → ℕ → ℕ
+plusNumber p a b = select (eqb p 16) (bitXor a b) (a + b)
+
+abbrev pub timesNumber : ℕ → ℕ → ℕ → ℕ
+timesNumber p a b = select (eqb p 16) (bitRemainder (bitProduct a b)) (a * b)
+
+abbrev pub negativeNumber : ℕ → ℕ → ℕ
+negativeNumber p a = select (eqb p 16) a (p - a)
+
 abbrev pub inverseNumber : ℕ → ℕ → ℕ
-inverseNumber p a = find p (λ y. eqb (a * y % p) 1)
+inverseNumber p a = find p (λ y. eqb (timesNumber p a y % p) 1)
 
 module _ (p : ℕ) where
   unfoldable pub sumOf : Element p → Element p → Element p
-  sumOf a b = symbol p (a .byte + b .byte)
+  sumOf a b = symbol p (plusNumber p (a .byte) (b .byte))
 
   unfoldable pub productOf : Element p → Element p → Element p
-  productOf a b = symbol p (a .byte * b .byte)
+  productOf a b = symbol p (timesNumber p (a .byte) (b .byte))
 
   unfoldable pub negativeOf : Element p → Element p
-  negativeOf a = symbol p (p - a .byte)
+  negativeOf a = symbol p (negativeNumber p (a .byte))
 
   unfoldable pub inverseOf : Element p → Element p
   inverseOf a = symbol p (inverseNumber p (a .byte))

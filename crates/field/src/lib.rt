@@ -1,19 +1,23 @@
-// Symbols: the numbers 0 to p-1, one byte each, where p is one of the ten field sizes.
+// Symbols: the numbers 0 to p-1, one byte each, where p is a field size. The fields are those modulo a prime, and the field of 16.
 ghost use mathlib.Core.Path.{_≡_};
-ghost use Prim.Native.Nat.{_+_, _/_, _%_, _<_};
+ghost use Prim.Native.Nat.{_%_, _<_};
 ghost use Rattle.field.specs.Symbols.{listed, symbols};
 ghost use Rattle.field.specs.Operations.{Operand, Operands, plusBytes, minusBytes, timesBytes, negByte, invByte, powByte, Listed};
-ghost use Rattle.field.specs.Kernels.{Subtracts, Scales, Reduces, subtracted, scaled};
+ghost use Rattle.field.specs.Kernels.{Subtracts, Scales, Convolves, subtracted, scaled, convolution};
 
-mod products; // products.rt: sums of products
+mod modulo; // modulo.rt: the fields modulo a prime
+mod sixteen; // sixteen.rt: the field of 16, bit polynomials of four bits
 
-pub use products::convolve;
+use modulo::reciprocal;
+use modulo::reduce;
 
 pub fn is_listed(p: u8) -> bool
     ensures { λ r. ⌜ r ≡ listed p ⌝ }
 {
     match p {
         3 | 5 | 7 | 11 | 13 | 17 | 19 | 23 | 29 | 31 => true,
+        // an arm of its own: beside 17 the compiler would make a range of the two
+        16 => true,
         _ => false,
     }
 }
@@ -45,15 +49,24 @@ impl Symbol {
         requires { ⌜ Operands p (self .value) (other .value) ⌝ }
         ensures { λ r. ⌜ r .value ≡ plusBytes p (self .value) (other .value) ⌝ }
     {
+        if p == 16 {
+            return Symbol {
+                value: self.value ^ other.value,
+            };
+        }
         Symbol {
             value: (self.value + other.value) % p,
         }
     }
 
+    // In the field of 16 minus is plus.
     pub fn negative(self, p: u8) -> Symbol
         requires { ⌜ Operand p (self .value) ⌝ }
         ensures { λ r. ⌜ r .value ≡ negByte p (self .value) ⌝ }
     {
+        if p == 16 {
+            return self;
+        }
         Symbol {
             value: (p - self.value) % p,
         }
@@ -63,6 +76,9 @@ impl Symbol {
         requires { ⌜ Operands p (self .value) (other .value) ⌝ }
         ensures { λ r. ⌜ r .value ≡ minusBytes p (self .value) (other .value) ⌝ }
     {
+        if p == 16 {
+            return self.sum(other, p);
+        }
         Symbol {
             value: (self.value + (p - other.value)) % p,
         }
@@ -72,6 +88,11 @@ impl Symbol {
         requires { ⌜ Operands p (self .value) (other .value) ⌝ }
         ensures { λ r. ⌜ r .value ≡ timesBytes p (self .value) (other .value) ⌝ }
     {
+        if p == 16 {
+            return Symbol {
+                value: sixteen::product(self.value, other.value),
+            };
+        }
         let x = self.value as u16 * other.value as u16;
         let g = reciprocal(p);
         Symbol {
@@ -85,6 +106,12 @@ impl Symbol {
         requires { ⌜ Operands p (x .value) (y .value) ⌝ }
         ensures { λ r. ⌜ r .value ≡ plusBytes p (self .value) (timesBytes p (x .value) (y .value)) ⌝ }
     {
+        if p == 16 {
+            let product = sixteen::product(x.value, y.value);
+            return Symbol {
+                value: self.value ^ product,
+            };
+        }
         let z = self.value as u16 + x.value as u16 * y.value as u16;
         let g = reciprocal(p);
         Symbol {
@@ -132,33 +159,15 @@ impl Symbol {
     }
 }
 
-// A product with this number and a shift make the quotient by p.
-fn reciprocal(p: u8) -> u16
-    requires { ⌜ Listed p ⌝ }
-    ensures { λ r. ⌜ r ≡ 65536 / p + 1 ⌝ }
-{
-    (65536u32 / p as u32 + 1) as u16
-}
-
-// z modulo p, with no division.
-fn reduce(z: u16, p: u8, g: u16) -> u8
-    requires { ⌜ Reduces p g z ⌝ }
-    ensures { λ r. ⌜ r ≡ z % p ⌝ }
-{
-    let q = (z as u32 * g as u32 / 65536) as u16;
-    (z - q * p as u16) as u8
-}
-
 // Takes c times the `len` symbols at `from` off those at `to`.
 pub fn subtract(rows: &mut [u8], to: usize, from: usize, len: usize, c: Symbol, p: u8)
     requires { ⌜ Subtracts p (c .value) to from len (now rows) ⌝ }
     ensures { λ _. ⌜ now (rows .exit) ≡ subtracted p (c .value) to from len (now (rows .entry)) ⌝ }
 {
-    let g = reciprocal(p);
-    let m = (p - c.value) as u16;
-    for i in 0..len {
-        let z = rows[to + i] as u16 + m * rows[from + i] as u16;
-        rows[to + i] = reduce(z, p, g);
+    if p == 16 {
+        sixteen::subtract(rows, to, from, len, c.value);
+    } else {
+        modulo::subtract(rows, to, from, len, c.value, p);
     }
 }
 
@@ -167,10 +176,20 @@ pub fn scale(rows: &mut [u8], at: usize, len: usize, c: Symbol, p: u8)
     requires { ⌜ Scales p (c .value) at len (now rows) ⌝ }
     ensures { λ _. ⌜ now (rows .exit) ≡ scaled p (c .value) at len (now (rows .entry)) ⌝ }
 {
-    let g = reciprocal(p);
-    let m = c.value as u16;
-    for i in 0..len {
-        let z = m * rows[at + i] as u16;
-        rows[at + i] = reduce(z, p, g);
+    if p == 16 {
+        sixteen::scale(rows, at, len, c.value);
+    } else {
+        modulo::scale(rows, at, len, c.value, p);
     }
+}
+
+// The products of f's first `count` symbols with those of xs from `top` downwards, added up.
+pub fn convolve(f: &[u8], xs: &[u8], top: usize, count: usize, p: u8) -> u8
+    requires { ⌜ Convolves p top count (now f) (now xs) ⌝ }
+    ensures { λ r. ⌜ r ≡ convolution p top count (now (f .entry)) (now (xs .entry)) .byte ⌝ }
+{
+    if p == 16 {
+        return sixteen::convolve(f, xs, top, count);
+    }
+    modulo::convolve(f, xs, top, count, p)
 }

@@ -1,5 +1,6 @@
-// For a measurement in C: the inverse, and the row update as the field crate has it and with a plain remainder.
+// For a measurement in C: the inverse, and the row update as the field crate has it and with a plain remainder, for the primes alone.
 ghost use mathlib.Core.Path.{_≡_};
+ghost use mathlib.Core.Logic.{_≢_};
 ghost use Rattle.field.specs.Operations.{Operand, invByte};
 ghost use Rattle.field.specs.Kernels.{Subtracts, subtracted};
 use field::Symbol;
@@ -31,6 +32,7 @@ pub extern "C" fn kernel_remainder(
     p: u8,
 )
     requires { ⌜ Subtracts p c to from len (now rows) ⌝ }
+    requires { ⌜ p ≢ 16 ⌝ }
     ensures { λ _. ⌜ now (rows .exit) ≡ subtracted p c to from len (now (rows .entry)) ⌝ }
 {
     let m = (p - c) as u16;

@@ -34,7 +34,7 @@ spelt-cons {p} {k} {c} {x} l s = record { long = ap suc (s .long); small = small
     small zero q = l
     small (suc i) q = s .small i (omega arith)
 
--- the ten fields
+-- the symbols of a listed p, in the order of their numbers
 pub symbols-numbered : {p : ℕ} → Listed p → Numbering (symbols p) p (symbol p)
 symbols-numbered {p} h =
     record {

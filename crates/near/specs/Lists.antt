@@ -1,5 +1,5 @@
 -- The messages near a received word. A message is k symbols, constant first, that is, a polynomial of degree below k. All is said over
--- any field whose elements are numbered: in the field of the numbers modulo p the elements are symbol p 0, .., symbol p (p-1). Rules: section 12.
+-- any field whose elements are numbered: in the field of size p the elements are symbol p 0, .., symbol p (p-1). Rules: section 12.
 --   Task F                  what is asked: the word received at n points, messages of k symbols, t agreements; and the numbers of symbols
 --   polynomial task x       the polynomial whose coefficients have the numbers x, constant first
 --   Spelt p k x             x is k numbers below p

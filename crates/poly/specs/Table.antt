@@ -2,7 +2,7 @@
 -- and with what makes it apply; the number given is that of the first one that applies, and 0 if none does.
 --   Refusal                a line of a table: its number, and what makes it apply
 --   First table number     number is the one to be given
---   NotListed p            1: p is not one of the ten
+--   NotListed p            1: p is no field size
 --   BadCount p n           2: n below 3 or above p
 --   BadDegree n k          4: k below 2 or above n - 1
 --   BadHeights m l         5: m or l out of its range

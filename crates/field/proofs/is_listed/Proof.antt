@@ -1,4 +1,4 @@
--- `field::is_listed` meets its contract: the keys of the match are the numbers of the list.
+-- `field::is_listed` meets its contract: the keys of the match's arms are the numbers of the list.
 use mathlib.Core.Path.{_≡_, refl, sym}
 use mathlib.Core.Logic.{inl, inr, ⊎-elim}
 use mathlib.Core.Bool.{Bool, true, false}
@@ -7,7 +7,7 @@ use Prim.Native.Nat.{ℕ}
 use lib.Dec.{eqb}
 use types.Run.{OneOf}
 use borrow.Author.Tests.{eq-eqb, ne-eqb}
-use Rattle.field.specs.Symbols.{or, among, sizes, listed}
+use Rattle.field.specs.Symbols.{or, among, primes, listed}
 use Rattle.field.proofs.is_listed.Statement.{statement}
 use Rattle.field.proofs.is_listed.Tie as tie
 
@@ -27,11 +27,18 @@ among-false (k ∷ (j ∷ ks)) x n = rw (ne-eqb x k (λ e. n (inl e))) (among-fa
 
 returns : tie.Need-returns
 unfolding listed
-returns c = sym (among-true sizes (c .before .args .p) (c .match .keys1))
+returns c = let x = c .before .args .p in sym (or-true (eqb x 16) _ (among-true primes x (c .match .keys1)))
 
 returns-2 : tie.Need-returns-2
 unfolding listed
-returns-2 c = sym (among-false sizes (c .before .args .p) (c .match .rest .1))
+returns-2 c = rw (c .match .keys2)
+
+returns-3 : tie.Need-returns-3
+unfolding listed
+returns-3 c =
+    let x = c .before .args .p in
+    let other = c .match .rest in
+    rw (ne-eqb x 16 (other .1)) (sym (among-false primes x (other .0 .1)))
 
 pub is-listed-spec : {M : Type 1} → statement M
-is-listed-spec = tie.close (tie.spec returns returns-2)
+is-listed-spec = tie.close (tie.spec returns returns-2 returns-3)

@@ -1,156 +1,25 @@
--- `field::subtract` meets its contract. The loop's invariant: the first i symbols of the region are done. m is p less the factor.
-use mathlib.Core.Path.{_≡_, refl, sym, ap, subst, _∙_}
-use mathlib.Core.List.{List}
-use Prim.Native.Nat.{ℕ, _+_, _-_, _*_, _<_, _≤_}
-use native.Mathlib.Omega.{arith}
-use lib.ListN.{length, getD, length-set}
+-- `field::subtract` meets its contract by either of the two.
 use borrow.Author.Needs.{needs}
-use Rattle.field.specs.Kernels.{subtracted}
-use Rattle.field.proofs.ReciprocalLaws.{small-product}
-use Rattle.field.proofs.KernelLaws.{subtracted-zero, subtracted-more, subtracted-keeps}
 use Rattle.field.proofs.subtract.Statement.{statement}
 use Rattle.field.proofs.subtract.Tie as tie
 
-abbrev Inv-loop : tie.InvT-loop
-Inv-loop rows₀ to from len p g m i₀ rows i =
-    (i ≤ len) × (m ≤ 31) × (length rows ≡ length rows₀) × (rows ≡ subtracted p (p - m) to from i rows₀)
+subtract-requires : tie.Need-subtract-requires
+subtract-requires c κs = let t = c .before in rw (t .if1 .taken) at (t .before .before .pre)
 
-abbrev μ-loop : tie.MeasureT-loop
-μ-loop rows₀ to from len p g m i₀ rows i = len - i
+subtract-requires-2 : tie.Need-subtract-requires-2
+subtract-requires-2 c κs = let e = c .before in (e .before .before .pre, e .if1 .left)
 
-module _ (c : tie.In-loop Inv-loop μ-loop) where
-  abbrev s : tie.Start Inv-loop μ-loop
-  s = c .before .before .before .before .before
-
-  abbrev x : ℕ
-  x = getD (c .before .loop .rows) (s .args .to + c .before .loop .i) 0
-
-  abbrev y : ℕ
-  y = getD (c .before .loop .rows) (s .args .from + c .before .loop .i) 0
-
-  -- what was a symbol's byte still is
-  kept : (q : ℕ) → getD (s .args .rows .now) q 0 < s .args .p → getD (c .before .loop .rows) q 0 < s .args .p
-  kept q h =
-      subst (λ (ys : List ℕ). getD ys q 0 < s .args .p) (sym (c .before .loop .inv .3))
-      (subtracted-keeps (s .pre .size) _ (s .args .to) (s .args .from) (c .before .loop .i) (s .args .rows .now)
-      (omega (arith, s .pre .target .within)) q h)
-
-  x-below : x < s .args .p
-  x-below = kept _ (s .pre .target .below (c .before .loop .i) (c .loop-test .taken))
-
-  y-below : y < s .args .p
-  y-below = kept _ (s .pre .source .below (c .before .loop .i) (c .loop-test .taken))
-
-  product-small : (m : ℕ) → m ≤ 31 → m * y ≤ 961
-  product-small m h = small-product m y (omega arith) (omega (arith, y-below))
-
-reciprocal-requires : tie.Need-reciprocal-requires Inv-loop μ-loop
-reciprocal-requires c κs = search needs
-
-sub-m : tie.Need-sub-m Inv-loop μ-loop
-sub-m c = search needs
-
-cast-m : tie.Need-cast-m Inv-loop μ-loop
-cast-m c = search needs
-
-loop-holds : tie.Need-loop-holds Inv-loop μ-loop
-loop-holds c = (omega arith, omega arith, refl, sym (subtracted-zero _ _ _ _ _))
-
-add-z : tie.Need-add-z Inv-loop μ-loop
-add-z c = search needs
-
-slice-read-z : tie.Need-slice-read-z Inv-loop μ-loop
-slice-read-z c = search needs
-
-cast-z : tie.Need-cast-z Inv-loop μ-loop
-cast-z c = omega (arith, x-below (c .before))
-
-add-z-2 : tie.Need-add-z-2 Inv-loop μ-loop
-add-z-2 c = search needs
-
-slice-read-z-2 : tie.Need-slice-read-z-2 Inv-loop μ-loop
-slice-read-z-2 c = search needs
-
-cast-z-2 : tie.Need-cast-z-2 Inv-loop μ-loop
-cast-z-2 c = omega (arith, y-below (c .before .before))
-
-mul-z : tie.Need-mul-z Inv-loop μ-loop
-mul-z c = let n = c .before .before in omega (arith, product-small n _ (n .before .loop .inv .1))
-
-add-z-3 : tie.Need-add-z-3 Inv-loop μ-loop
-add-z-3 c = let n = c .before .before in omega (arith, product-small n _ (n .before .loop .inv .1), x-below n)
-
-reduce-requires : tie.Need-reduce-requires Inv-loop μ-loop
-reduce-requires c κs = let n = c .before .before in
-    record {
-      size = s n .pre .size;
-      reciprocal = n .before .before .before .reciprocal .ensures;
-      low = omega (arith, product-small n _ (n .before .loop .inv .1), x-below n);
-    }
-
-add-rows : tie.Need-add-rows Inv-loop μ-loop
-add-rows c = search needs
-
-slice-write-rows : tie.Need-slice-write-rows Inv-loop μ-loop
-slice-write-rows c = search needs
-
-add-i : tie.Need-add-i Inv-loop μ-loop
-add-i c = search needs
-
-loop-less : tie.Need-loop-less Inv-loop μ-loop
-loop-less c = search needs
-
--- the invariant, with the factor in it
-done : (c : tie.At-loop Inv-loop μ-loop) → let a = c .before .before .before .before .args in
-    c .loop .rows ≡ subtracted (a .p) (a .c .value) (a .to) (a .from) (c .loop .i) (a .rows .now)
-done c =
-    let s = c .before .before .before .before in
-    let a = s .args in
-    c .loop .inv .3 ∙ ap (λ (f : ℕ). subtracted (a .p) f (a .to) (a .from) (c .loop .i) (a .rows .now)) (omega (arith, s .pre .factor))
-
-loop-again : tie.Need-loop-again Inv-loop μ-loop
-loop-again c =
-    let n = c .before .before .before in
-    let l = n .before .loop in
-    let a = s n .args in
-    let e : a .p - (a .p - a .c .value) ≡ a .c .value = omega (arith, s n .pre .factor) in (
-      omega arith,
-      l .inv .1,
-      simp length-set (l .inv .2),
-      rw e (subtracted-more (s n .pre) (l .i) (n .loop-test .taken) (done (n .before)) (c .reduce .ensures)),
-    )
-
-same-length : tie.Need-same-length Inv-loop μ-loop
+same-length : tie.Need-same-length
 same-length c = search needs
 
-returns : tie.Need-returns Inv-loop μ-loop
-returns c =
-    let e : c .before .loop .i ≡ c .before .before .before .before .before .args .len = omega arith in
-    rw e at (done (c .before))
+returns : tie.Need-returns
+returns c = let a = c .before .before in rw (a .before .before .if1 .taken) (a .subtract .ensures)
+
+same-length-2 : tie.Need-same-length-2
+same-length-2 c = search needs
+
+returns-2 : tie.Need-returns-2
+returns-2 c = c .before .before .subtract2 .ensures
 
 pub subtract-spec : {M : Type 1} → statement M
-subtract-spec =
-    tie.close
-    (tie.spec
-    Inv-loop
-    μ-loop
-    reciprocal-requires
-    sub-m
-    cast-m
-    loop-holds
-    add-z
-    slice-read-z
-    cast-z
-    add-z-2
-    slice-read-z-2
-    cast-z-2
-    mul-z
-    add-z-3
-    reduce-requires
-    add-rows
-    slice-write-rows
-    add-i
-    loop-less
-    loop-again
-    same-length
-    returns)
+subtract-spec = tie.close (tie.spec subtract-requires subtract-requires-2 same-length returns same-length-2 returns-2)

@@ -7,7 +7,7 @@ use borrow.Author.Needs.{needs}
 use Rattle.field.specs.Kernels.{subtracted}
 use Rattle.field.proofs.SymbolLaws.{remainder-byte}
 use Rattle.field.proofs.ReciprocalLaws.{small-product}
-use Rattle.field.proofs.KernelLaws.{subtracted-zero, target-below, source-below, subtracted-more}
+use Rattle.field.proofs.KernelLaws.{subtracted-zero, target-below, source-below, subtracted-more-mod}
 use Rattle.kernels.proofs.kernel_remainder.Statement.{statement}
 use Rattle.kernels.proofs.kernel_remainder.Tie as tie
 
@@ -29,10 +29,10 @@ module _ (c : tie.In-loop Inv-loop μ-loop) where
   y = getD (c .before .loop .rows) (s .args .from + c .before .loop .i) 0
 
   x-below : x < s .args .p
-  x-below = target-below (s .pre) (c .before .loop .i) (c .loop-test .taken) (c .before .loop .inv .3)
+  x-below = target-below (s .pre .0) (c .before .loop .i) (c .loop-test .taken) (c .before .loop .inv .3)
 
   y-below : y < s .args .p
-  y-below = source-below (s .pre) (c .before .loop .i) (c .loop-test .taken) (c .before .loop .inv .3)
+  y-below = source-below (s .pre .0) (c .before .loop .i) (c .loop-test .taken) (c .before .loop .inv .3)
 
   product-small : (m : ℕ) → m ≤ 31 → m * y ≤ 961
   product-small m h = small-product m y (omega arith) (omega (arith, y-below))
@@ -74,7 +74,7 @@ rem-rows : tie.Need-rem-rows Inv-loop μ-loop
 rem-rows c = search needs
 
 cast-rows : tie.Need-cast-rows Inv-loop μ-loop
-cast-rows c = record { fits = remainder-byte _ (s (c .before .before) .pre .size) }
+cast-rows c = record { fits = remainder-byte _ (s (c .before .before) .pre .0 .size) }
 
 add-rows : tie.Need-add-rows Inv-loop μ-loop
 add-rows c = search needs
@@ -92,7 +92,8 @@ loop-again : tie.Need-loop-again Inv-loop μ-loop
 loop-again c =
     let n = c .before .before in
     let l = n .before .loop in
-    (omega arith, l .inv .1, simp length-set (l .inv .2), subtracted-more (s n .pre) (l .i) (n .loop-test .taken) (l .inv .3) refl)
+    let done = subtracted-more-mod (s n .pre .0) (l .i) (n .loop-test .taken) (l .inv .3) (s n .pre .1) refl in
+    (omega arith, l .inv .1, simp length-set (l .inv .2), done)
 
 same-length : tie.Need-same-length Inv-loop μ-loop
 same-length c = search needs

@@ -1,14 +1,15 @@
--- `field::products::convolve` meets its contract: the sum stands for that of the first i products.
+-- `field::modulo::convolve` meets its contract: the sum stands for that of the first i products.
 use mathlib.Core.Path.{_≡_, sym, ap, _∙_}
 use Prim.Native.Nat.{_≤_, _*_, _-_}
 use native.Mathlib.Omega.{arith}
+use lib.ListN.{getD}
 use Rattle.field.specs.Symbols.{Element, symbol}
 use Rattle.field.specs.Kernels.{convolution}
-use Rattle.field.proofs.SymbolLaws.{remainder-byte, byte-symbol}
+use Rattle.field.proofs.SymbolLaws.{remainder-byte, byte-symbol, symbol-plus, symbol-times}
 use Rattle.field.proofs.Convolutions.{convolution-none, convolution-more}
 use borrow.Author.Needs.{needs}
-use Rattle.field.proofs.products.convolve.Statement.{statement}
-use Rattle.field.proofs.products.convolve.Tie as tie
+use Rattle.field.proofs.modulo.convolve.Statement.{statement}
+use Rattle.field.proofs.modulo.convolve.Tie as tie
 
 abbrev Inv-loop : tie.InvT-loop
 Inv-loop f xs top count p sum₀ i₀ sum i = (i ≤ count) × ((sum ≤ i * 65025) × (symbol p sum ≡ convolution p top i f xs))
@@ -43,12 +44,15 @@ loop-less c = search needs
 loop-again : tie.Need-loop-again Inv-loop μ-loop
 loop-again c =
     let l = c .before .before .before .before in
-    let s = l .before .before .before .args in (
+    let other = l .before .before .before .pre .1 in
+    let s = l .before .before .before .args in
+    let i = l .loop .i in (
       search needs,
       (
         omega (arith, l .loop .inv .1 .0, c .wide-product .ensures .1),
-        convolution-more (s .p) (s .top) (s .f .now) (s .xs .now) (l .loop .i) (l .loop .sum) (c .wide-product .result) (l .loop .inv .1 .1)
-            (c .wide-product .ensures .0),
+        convolution-more (s .p) (s .top) (s .f .now) (s .xs .now) i (l .loop .sum) (c .wide-product .result) _ (l .loop .inv .1 .1)
+            (rw (c .wide-product .ensures .0) (symbol-times (s .p) other (getD (s .f .now) i 0) (getD (s .xs .now) (s .top - i) 0)))
+            (symbol-plus (s .p) other (l .loop .sum) (c .wide-product .result)),
       ),
     )
 
@@ -56,7 +60,7 @@ rem-result : tie.Need-rem-result Inv-loop μ-loop
 rem-result c = search needs
 
 cast-result : tie.Need-cast-result Inv-loop μ-loop
-cast-result c = record { fits = remainder-byte _ (c .before .before .before .before .pre .size) }
+cast-result c = record { fits = remainder-byte _ (c .before .before .before .before .pre .0 .size) }
 
 returns : tie.Need-returns Inv-loop μ-loop
 returns c =
