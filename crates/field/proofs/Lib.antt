@@ -7,6 +7,7 @@ pub mod Lists
 pub mod BitPolynomialLaws
 pub mod SymbolLaws
 pub mod OperationLaws
+pub mod SixteenLaws
 pub mod ReciprocalLaws
 pub mod KernelLaws
 pub mod Convolutions

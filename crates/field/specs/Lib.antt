@@ -5,3 +5,4 @@ pub mod Symbols
 pub mod Operations
 pub mod Kernels
 pub mod Choices
+pub mod Examples
