@@ -10,7 +10,7 @@ use lib.ListN.{length, getD, List·getD-eq-default}
 use Rattle.field.specs.Field.{FieldLaws}
 use Rattle.field.specs.Symbols.{listed, symbol, symbols, same-byte, symbolsOf}
 use Rattle.field.specs.Operations.{Listed}
-use Rattle.field.proofs.SymbolLaws.{symbols-field}
+use Rattle.field.proofs.SymbolLaws.{is-listed, symbols-field}
 use Rattle.field.proofs.Tests.{all, all-at}
 use Rattle.poly.specs.Polynomials.{value, Through}
 use Rattle.poly.specs.Table.{Repeated}
@@ -26,14 +26,14 @@ use Rattle.figures.specs.Figures.{three, atThree}
 
 pub seven : Listed 7
 unfolding listed
-seven = record { is = tt; small = omega arith; large = omega arith }
+seven = is-listed refl
 
 pub seven-laws : FieldLaws (symbols 7)
 seven-laws = symbols-field 7 seven
 
--- each is below 7; no two are equal; the polynomial with the coefficients hs has the values of the word at the points; bytes hold a curve
-abbrev pub small : List ℕ → Bool
-small xs = all (length xs) (λ i. ltb (getD xs i 0) 7)
+-- each is below p; no two are equal; the polynomial with the coefficients hs has the values of the word at the points; bytes hold a curve
+abbrev pub small : ℕ → List ℕ → Bool
+small p xs = all (length xs) (λ i. ltb (getD xs i 0) p)
 
 abbrev pub distinct : List ℕ → Bool
 distinct xs = all (length xs) (λ j. all j (λ i. not (eqb (getD xs i 0) (getD xs j 0))))
@@ -48,8 +48,8 @@ same S Q bytes j e = eqb (getD bytes (j * slot S + e) 0) (Q j e .byte)
 abbrev pub spelt : (S : Shape) → Curve (symbols (S .p) .ring) → List ℕ → Bool
 spelt S Q bytes = all (suc (S .l)) (λ j. all (slot S) (same S Q bytes j))
 
-pub all-below : (xs : List ℕ) → T (small xs) → AllBelow 7 xs
-all-below xs t i h = ltb→lt _ _ (all-at _ _ t i h)
+pub all-below : (p : ℕ) (xs : List ℕ) → T (small p xs) → AllBelow p xs
+all-below p xs t i h = ltb→lt _ _ (all-at _ _ t i h)
 
 pub all-different : (xs : List ℕ) → T (distinct xs) → Repeated xs → ⊥
 all-different xs t r =
@@ -67,21 +67,22 @@ holds-curve S Q bytes t j e h k =
     eqb→eq _ _ (all-at (slot S) (same S Q bytes j) (all-at (suc (S .l)) (λ j. all (slot S) (same S Q bytes j)) t j (omega arith)) e (omega arith))
 
 -- a word at the points 1, 2, 3 is in order
-pub at-places : (word : List ℕ) → length word ≡ 3 → T (small word) → Places 7 three word
+pub at-places : (word : List ℕ) → length word ≡ 3 → T (small 7 word) → Places 7 three word
 at-places word long below =
     record {
       size = seven;
       count = omega arith;
       same = long;
-      points-below = all-below three tt;
-      word-below = all-below word below;
+      points-below = all-below 7 three tt;
+      word-below = all-below 7 word below;
       different = all-different three tt;
     }
 
 pub three-distinct : Distinct (symbols 7 .ring) 3 (symbolsOf 7 three)
 three-distinct = places-distinct (at-places three refl tt)
 
-pub at-three : (word lent : List ℕ) {m : ℕ} → length word ≡ 3 → T (small word) → 1 ≤ m → m ≤ 4 → rowsBytes (shapeFor (atThree word m)) ≤ length lent
+pub at-three : (word lent : List ℕ) {m : ℕ} → length word ≡ 3 → T (small 7 word) → 1 ≤ m → m ≤ 4
+    → rowsBytes (shapeFor (atThree word m)) ≤ length lent
     → Accepted 7 three word 2 m m lent
 at-three word lent long below some most room =
     record {

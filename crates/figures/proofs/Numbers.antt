@@ -8,7 +8,9 @@ use native.Mathlib.Omega.{arith}
 use lib.ListN.{length}
 use borrow.Author.Needs.{needs}
 use Rattle.field.specs.Symbols.{listed}
-use Rattle.poly.specs.Table.{First, BadHeights}
+use Rattle.field.specs.Operations.{Listed}
+use Rattle.field.proofs.SixteenLaws.{sixteen}
+use Rattle.poly.specs.Table.{First, BadCount, BadHeights, TooLarge}
 use Rattle.poly.specs.Encode.{encodeTable}
 use Rattle.poly.specs.Limits.{workingRoom}
 use Rattle.poly.proofs.TableLaws.{first-determined, first-goes, not-unlisted, none-large, good-count, good-degree}
@@ -16,7 +18,7 @@ use Rattle.rows.specs.Jobs.{startTable, requestTable}
 use Rattle.rows.proofs.Accepted.{Accepted}
 use Rattle.near.specs.Job.{listTable}
 use Rattle.near.specs.declared.Near.{Near}
-use Rattle.figures.specs.Figures.{EncodeGives, Refused}
+use Rattle.figures.specs.Figures.{zeroTo15, EncodeGives, Refused}
 use Rattle.figures.proofs.Computed.{seven}
 
 -- a line that does not apply, and what the rest of the table gives
@@ -78,11 +80,17 @@ module _ (points word : List ℕ) where
   pub p-9 : (k m l t : ℕ) → EncodeGives 1 9 points k × Refused 1 9 points word k m l t
   p-9 k m l t = (encode-gives 0 (λ message lent e. inl (nine, refl)), refused 0 (λ lent. inl (nine, refl)) (λ room messages. inl (nine, refl)))
 
-  pub n-2 : (k m l t : ℕ) → length points ≡ 2 → EncodeGives 2 7 points k × Refused 2 7 points word k m l t
-  n-2 k m l t two = (
-    encode-gives 1 (λ message lent e. not-unlisted seven ⊳ inl (inl (omega arith), refl)),
-    refused 1 (λ lent. not-unlisted seven ⊳ inl (inl (omega arith), refl)) (λ room messages. not-unlisted seven ⊳ inl (inl (omega arith), refl)),
+  bad-count : {p : ℕ} → Listed p → (k m l t : ℕ) → BadCount p (length points) → EncodeGives 2 p points k × Refused 2 p points word k m l t
+  bad-count size k m l t bad = (
+    encode-gives 1 (λ message lent e. not-unlisted size ⊳ inl (bad, refl)),
+    refused 1 (λ lent. not-unlisted size ⊳ inl (bad, refl)) (λ room messages. not-unlisted size ⊳ inl (bad, refl)),
   )
+
+  pub n-2 : (k m l t : ℕ) → length points ≡ 2 → EncodeGives 2 7 points k × Refused 2 7 points word k m l t
+  n-2 k m l t two = bad-count seven k m l t (inl (omega arith))
+
+  pub n-17 : (k m l t : ℕ) → length points ≡ 17 → EncodeGives 2 16 points k × Refused 2 16 points word k m l t
+  n-17 k m l t many = bad-count sixteen k m l t (inr (omega arith))
 
   module _ (some : 3 ≤ length points) (most : length points ≤ 7) (same : length word ≡ length points) where
     pub k-n : (m l t : ℕ) → EncodeGives 4 7 points (length points) × Refused 4 7 points word (length points) m l t
@@ -98,3 +106,12 @@ module _ (points word : List ℕ) where
         (inr (inr (inr (omega arith))), refl))
         (λ room messages. not-unlisted seven ⊳ good-count some most ⊳ (λ n. n same) ⊳ good-degree low degree ⊳ inl
         (inr (inr (inr (omega arith))), refl))
+
+pub symbol-16 : (word : List ℕ) (k m l t : ℕ) → length word ≡ 16 → 2 ≤ k → k < 16 → (BadHeights m l → ⊥) → TooLarge 16 word
+    → Refused 6 16 zeroTo15 word k m l t
+symbol-16 word k m l t same low degree heights large =
+    refused 5 (λ lent. not-unlisted sixteen ⊳ count ⊳ (λ n. n same) ⊳ good-degree low degree ⊳ heights ⊳ inl (inr large, refl))
+    (λ room messages. not-unlisted sixteen ⊳ count ⊳ (λ n. n same) ⊳ good-degree low degree ⊳ heights ⊳ inl (inr large, refl))
+  where
+    count : BadCount 16 16 → ⊥
+    count = good-count (omega arith) (omega arith)

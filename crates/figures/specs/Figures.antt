@@ -1,7 +1,7 @@
 -- The figures of docs/RULES.md, section 18, that are marked to be proved, as one statement. Each says what any outcome is that meets the
 -- contracts of the jobs, whatever the lent bytes were before.
---   six, three             the points 1 to 6 and the points 1, 2, 3; word-0-0-1  a word at these
---   Encodes message word   encode gives this word over the field of 7 at the points 1 to 6
+--   six, three             the points 1 to 6 and the points 1, 2, 3; word-0-0-1  a word at these; zeroTo15  the points 0 to 15
+--   Encodes p points message word   encode gives this word
 --   Calls q                start, turn and finish one after the other, for the request q
 --   Gives                  what three such calls hand back, and the bytes of the curve
 --   atThree word m         the request of a word at the points 1, 2, 3 over the field of 7, with k = 2 and l = m
@@ -19,6 +19,7 @@ use lib.ListN.{length, getD, take, drop}
 use Rattle.field.specs.Field.{pow}
 use Rattle.field.specs.Symbols.{symbols, symbolsOf}
 use Rattle.poly.specs.Polynomials.{Seq, Series, xS, Through}
+use Rattle.poly.specs.Table.{BadHeights, TooLarge}
 use Rattle.poly.specs.Encode.{Encoded}
 use Rattle.poly.specs.Limits.{workingRoom}
 use Rattle.curves.specs.Start.{formula}
@@ -38,9 +39,13 @@ use Rattle.departures.specs.declared.Departure.{Departure}
 abbrev pub six : List ℕ
 six = 1 ∷ 2 ∷ 3 ∷ 4 ∷ 5 ∷ 6 ∷ []
 
-abbrev pub Encodes : List ℕ → List ℕ → Type 0
-Encodes message word =
-    (before after : List ℕ) (number : ℕ) → 6 ≤ length before → Encoded 7 six message before after number → (number ≡ 0) × (take 6 after ≡ word)
+abbrev pub zeroTo15 : List ℕ
+zeroTo15 = 0 ∷ 1 ∷ 2 ∷ 3 ∷ 4 ∷ 5 ∷ 6 ∷ 7 ∷ 8 ∷ 9 ∷ 10 ∷ 11 ∷ 12 ∷ 13 ∷ 14 ∷ 15 ∷ []
+
+abbrev pub Encodes : ℕ → List ℕ → List ℕ → List ℕ → Type 0
+Encodes p points message word =
+    (before after : List ℕ) (number : ℕ) → length points ≤ length before → Encoded p points message before after number
+    → (number ≡ 0) × (take (length points) after ≡ word)
 
 -- with room enough, and one turn whose allowance is the formula or more
 pub record Calls (q : Request) : Type 0 where
@@ -100,8 +105,8 @@ pub record MinuteGives (minute : ℕ) (digits time : List ℕ) : Type 0 where
       → (number ≡ 0) × (take timeBytes after ≡ time)
 
 pub record Figures : Type 0 where
-  pub message-5-2-6 : Encodes (5 ∷ 2 ∷ 6 ∷ []) (6 ∷ 5 ∷ 2 ∷ 4 ∷ 4 ∷ 2 ∷ [])
-  pub message-1-3-4 : Encodes (1 ∷ 3 ∷ 4 ∷ []) (1 ∷ 2 ∷ 4 ∷ 0 ∷ 4 ∷ 2 ∷ [])
+  pub message-5-2-6 : Encodes 7 six (5 ∷ 2 ∷ 6 ∷ []) (6 ∷ 5 ∷ 2 ∷ 4 ∷ 4 ∷ 2 ∷ [])
+  pub message-1-3-4 : Encodes 7 six (1 ∷ 3 ∷ 4 ∷ []) (1 ∷ 2 ∷ 4 ∷ 0 ∷ 4 ∷ 2 ∷ [])
   -- no update, weight 1 and height 1: y + 6x
   pub curve-1-2-3 : (c : Calls (atThree three 1)) → Gives c 0 1 1 ((0 ∷ 6 ∷ 0 ∷ 0 ∷ []) ++ (1 ∷ 0 ∷ 0 ∷ 0 ∷ []))
   -- h = 4x^2 + 2x + 1
@@ -127,6 +132,11 @@ pub record Figures : Type 0 where
   pub l-9-gives-5 : (points word : List ℕ) (k m t : ℕ) → 3 ≤ length points → length points ≤ 7 → length word ≡ length points → 2 ≤ k
       → k < length points
       → Refused 5 7 points word k m 9 t
+  -- over the field of 16: from the point 8 on its double has a fifth bit, and 19, that is x^4 + x + 1, is taken off
+  pub message-1-2-at-16 : Encodes 16 zeroTo15 (1 ∷ 2 ∷ []) (1 ∷ 3 ∷ 5 ∷ 7 ∷ 9 ∷ 11 ∷ 13 ∷ 15 ∷ 2 ∷ 0 ∷ 6 ∷ 4 ∷ 10 ∷ 8 ∷ 14 ∷ 12 ∷ [])
+  pub n-17-gives-2-at-16 : (points word : List ℕ) (k m l t : ℕ) → length points ≡ 17 → EncodeGives 2 16 points k × Refused 2 16 points word k m l t
+  pub symbol-16-gives-6-at-16 : (word : List ℕ) (k m l t : ℕ) → length word ≡ 16 → 2 ≤ k → k < 16 → (BadHeights m l → ⊥) → TooLarge 16 word
+      → Refused 6 16 zeroTo15 word k m l t
   -- 24:15
   pub minute-1455 : MinuteGives 1455 (1 ∷ 15 ∷ 29 ∷ []) (50 ∷ 52 ∷ 58 ∷ 49 ∷ 53 ∷ [])
   -- 29:59

@@ -55,12 +55,11 @@ fn digits(number: u32, out: &mut [u8]) {
     }
 }
 
-fn encode(p: u8, points: &[u8], message: &[u8]) {
-    let mut word = [0u8; 6];
-    let number = poly::encode(p, points, message, &mut word);
+fn encode(p: u8, points: &[u8], message: &[u8], word: &mut [u8]) {
+    let number = poly::encode(p, points, message, word);
     show(b"  message", message);
     show(b"  encode", &[number]);
-    show(b"  word", &word);
+    show(b"  word", word);
 }
 
 // Start, a turn, finish.
@@ -97,8 +96,9 @@ fn three(p: u8, message: u32, word: u32, k: u8, m: u8, l: u8, t: u8) {
     let mut received = [0u8; 3];
     digits(word, &mut received);
     let mut lent = [0u8; 63];
+    let mut encoded = [0u8; 6];
     show(b"p k m l t", &[p, k, m, l, t]);
-    encode(p, &points, &sent);
+    encode(p, &points, &sent, &mut encoded);
     show(b"  received", &received);
     interpolate(p, &points, &received, k, m, l, &mut lent);
     list(p, &points, &received, k, m, l, t);
@@ -113,12 +113,25 @@ fn example_19(message: u32, t: u8) {
     digits(624442, &mut received);
     let mut lent = [0u8; 240];
     let mut less = [0u8; 239];
+    let mut encoded = [0u8; 6];
     show(b"example 19, t", &[t]);
-    encode(7, &points, &sent);
+    encode(7, &points, &sent, &mut encoded);
     show(b"  received", &received);
     interpolate(7, &points, &received, 3, 2, 3, &mut lent);
     interpolate(7, &points, &received, 3, 2, 3, &mut less);
     list(7, &points, &received, 3, 2, 3, t);
+}
+
+// A message of two symbols and a received word over the field of 16, with m = 1 and l = 2.
+fn sixteen(points: &[u8], message: &[u8], received: &[u8], t: u8) {
+    let mut lent = [0u8; 162];
+    let mut encoded = [0u8; 16];
+    show(b"field 16, t", &[t]);
+    show(b"  points", points);
+    encode(16, points, message, &mut encoded);
+    show(b"  received", received);
+    interpolate(16, points, received, 2, 1, 2, &mut lent);
+    list(16, points, received, 2, 1, 2, t);
 }
 
 // A departure, written and shown; the time is dashes where there is none.
@@ -164,6 +177,15 @@ fn main() {
     three(7, 16, 345, 2, 1, 1, 4);
     three(7, 16, 654, 2, 1, 1, 3);
     three(7, 17, 754, 2, 1, 1, 3);
+    // the field of 16: eight places of 1 + 2x and eight of x, then a point too many, and a symbol that is none
+    let all = [0u8, 1, 2, 3, 4, 5, 6, 7, 8, 9, 10, 11, 12, 13, 14, 15];
+    let halves = [1u8, 3, 5, 7, 9, 11, 13, 15, 8, 9, 10, 11, 12, 13, 14, 15];
+    sixteen(&all, &[1, 2], &halves, 8);
+    sixteen(&all, &[1, 2], &halves, 9);
+    let more = [0u8, 1, 2, 3, 4, 5, 6, 7, 8, 9, 10, 11, 12, 13, 14, 15, 16];
+    sixteen(&more, &[1, 2], &more, 8);
+    let larger = [1u8, 3, 5, 7, 9, 11, 13, 15, 8, 9, 10, 11, 12, 13, 14, 16];
+    sixteen(&all, &[1, 16], &larger, 8);
     // departures: 24:15, and the ends of the ranges
     depart(7, 100, 1455);
     depart(30, 960, 1799);
