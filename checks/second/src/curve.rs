@@ -52,7 +52,7 @@ impl Curve {
         let mut sums: BTreeMap<Term, i64> = BTreeMap::new();
         for (term, coefficient) in terms {
             let sum = sums.entry(term).or_insert(0);
-            *sum = field.reduce(*sum + coefficient);
+            *sum = field.sum(*sum, coefficient);
         }
         let nonzero = sums.into_iter().rev().filter(|&(_, c)| c != 0);
         Curve {
@@ -98,7 +98,7 @@ impl Curve {
     pub fn times(&self, field: Field, other: &Curve) -> Curve {
         let pairs = self.terms.iter().flat_map(|&(left, a)| {
             let right = other.terms.iter();
-            right.map(move |&(right, b)| (left.times(right), a * b))
+            right.map(move |&(right, b)| (left.times(right), field.product(a, b)))
         });
         Curve::gather(field, pairs)
     }
@@ -119,7 +119,7 @@ impl Curve {
         let mut rest = other.terms.as_slice();
         for &(term, coefficient) in &self.terms {
             let larger = rest.iter().take_while(|(right, _)| *right > term).count();
-            terms.extend(rest[..larger].iter().map(|&(t, b)| (t, field.reduce(-b))));
+            terms.extend(rest[..larger].iter().map(|&(t, b)| (t, field.negative(b))));
             rest = &rest[larger..];
             let subtracted = match rest.first() {
                 Some(&(right, b)) if right == term => {
@@ -128,12 +128,12 @@ impl Curve {
                 }
                 _ => 0,
             };
-            let difference = field.reduce(coefficient - subtracted);
+            let difference = field.difference(coefficient, subtracted);
             if difference != 0 {
                 terms.push((term, difference));
             }
         }
-        terms.extend(rest.iter().map(|&(t, b)| (t, field.reduce(-b))));
+        terms.extend(rest.iter().map(|&(t, b)| (t, field.negative(b))));
         Curve { terms }
     }
 
@@ -154,10 +154,10 @@ impl Curve {
         let length = self.terms.iter().map(|(term, _)| term.x + 1).max();
         let longest = powers.iter().map(Vec::len).max();
         let mut result = vec![0; length.unwrap_or(0) + longest.unwrap_or(0)];
-        for (term, coefficient) in &self.terms {
-            for (x, value) in powers[term.y].iter().enumerate() {
+        for &(term, coefficient) in &self.terms {
+            for (x, &value) in powers[term.y].iter().enumerate() {
                 let entry = &mut result[term.x + x];
-                *entry = field.reduce(*entry + coefficient * value);
+                *entry = field.sum(*entry, field.product(coefficient, value));
             }
         }
         poly::sum(field, &result, &[])
@@ -211,7 +211,10 @@ mod tests {
     fn the_difference_is_that_of_the_gathered_terms() {
         let a = curve(&[(0, 0, 1), (3, 0, 2), (1, 1, 3), (0, 2, 4)]);
         let b = curve(&[(0, 0, 1), (2, 0, 2), (1, 1, 1), (5, 0, 6)]);
-        let negated = b.terms().iter().map(|&(term, c)| (term, -c));
+        let negated = b
+            .terms()
+            .iter()
+            .map(|&(term, c)| (term, field().negative(c)));
         let expected = Curve::gather(field(), a.terms().iter().copied().chain(negated));
         assert_eq!(a.minus(field(), &b), expected);
         assert!(a.minus(field(), &a).is_zero());

@@ -1,7 +1,8 @@
 //! The independent second program: the jobs of the rules (docs/RULES.md), and the program `listing`, written from
-//! the rules alone. It shares no line with the library and goes other ways on purpose: whole numbers and `%` instead of
-//! tables, curves as sorted lists of terms instead of bytes in slots, roots by the method of Roth and Ruckenstein
-//! instead of one shifted buffer, digits by taking away instead of dividing. Where both agree, a common slip is unlikely.
+//! the rules alone. It shares no line with the library and goes other ways on purpose: remainders by `%`, and logarithms
+//! in the field of 16, instead of shifts, curves as sorted lists of terms instead of bytes in slots, roots by the method
+//! of Roth and Ruckenstein instead of one shifted buffer, digits by taking away instead of dividing. Where both agree, a
+//! common slip is unlikely.
 //!
 //! Every job answers any input whatsoever: any lengths, any bytes, any notes.
 
@@ -12,6 +13,7 @@ mod hear;
 mod interpolation;
 mod list;
 mod request;
+mod sixteen;
 mod slots;
 mod text;
 

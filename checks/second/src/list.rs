@@ -95,11 +95,8 @@ pub fn roots(field: Field, u: usize, curve: &Curve, k: usize) -> Vec<Poly> {
 /// Whether the symbol is a root of the curve at x = 0.
 fn is_root_at_zero(field: Field, curve: &Curve, symbol: i64) -> bool {
     let constant = curve.terms().iter().filter(|(term, _)| term.x == 0);
-    field.reduce(
-        constant
-            .map(|(term, a)| a * field.power(symbol, term.y))
-            .sum(),
-    ) == 0
+    let values = constant.map(|&(term, a)| field.product(a, field.power(symbol, term.y)));
+    field.total(values) == 0
 }
 
 /// The curve at y = symbol + x y, divided by its highest power of x.
@@ -107,7 +104,7 @@ fn after(field: Field, u: usize, curve: &Curve, symbol: i64) -> Curve {
     let expanded = curve.terms().iter().flat_map(|&(term, a)| {
         (0..=term.y).map(move |y| {
             let factor = field.product(field.binomial(term.y, y), field.power(symbol, term.y - y));
-            (Term::new(u, term.x + y, y), a * factor)
+            (Term::new(u, term.x + y, y), field.product(a, factor))
         })
     });
     without_x(field, u, &Curve::gather(field, expanded))

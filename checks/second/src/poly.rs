@@ -16,7 +16,7 @@ pub fn sum(field: Field, a: &[i64], b: &[i64]) -> Poly {
     let length = a.len().max(b.len());
     trimmed(
         (0..length)
-            .map(|power| field.reduce(at(a, power) + at(b, power)))
+            .map(|power| field.sum(at(a, power), at(b, power)))
             .collect(),
     )
 }
@@ -25,7 +25,7 @@ pub fn product(field: Field, a: &[i64], b: &[i64]) -> Poly {
     let mut result = vec![0; a.len() + b.len()];
     for (i, &left) in a.iter().enumerate() {
         for (j, &right) in b.iter().enumerate() {
-            result[i + j] = field.reduce(result[i + j] + left * right);
+            result[i + j] = field.sum(result[i + j], field.product(left, right));
         }
     }
     trimmed(result)
@@ -34,13 +34,13 @@ pub fn product(field: Field, a: &[i64], b: &[i64]) -> Poly {
 /// The value at a point, as the sum of the terms.
 pub fn value(field: Field, poly: &[i64], point: i64) -> i64 {
     let terms = poly.iter().enumerate();
-    field.reduce(terms.map(|(power, &c)| c * field.power(point, power)).sum())
+    field.total(terms.map(|(power, &c)| field.product(c, field.power(point, power))))
 }
 
 /// The product of (x - point) over the given points.
 pub fn vanishing(field: Field, points: &[i64]) -> Poly {
     points.iter().fold(vec![1], |poly, &point| {
-        product(field, &poly, &[field.reduce(-point), 1])
+        product(field, &poly, &[field.negative(point), 1])
     })
 }
 
@@ -83,7 +83,7 @@ mod tests {
             let poly = trimmed(
                 points
                     .iter()
-                    .map(|a| field.reduce(a * a + 2 * a + 2))
+                    .map(|&a| field.sum(field.product(a, field.sum(a, 2)), 2))
                     .collect(),
             );
             let values: Vec<i64> = points.iter().map(|&a| value(field, &poly, a)).collect();

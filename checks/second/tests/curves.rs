@@ -59,11 +59,13 @@ fn the_largest_settings() {
     }
 }
 
-/// With p = 3 the third derivative of x^3 vanishes by itself; the shifted coefficients are not deceived.
+/// With p = 3 the third derivative of x^3 vanishes by itself, with p = 16 the second of x^2; the shifted coefficients are not deceived.
 #[test]
 fn multiplicity_is_not_read_off_derivatives() {
-    let field = Field::of_size(3).unwrap();
-    let cube = Curve::gather(field, [(Term::new(1, 3, 0), 1)]);
-    assert!(has_multiplicity(field, &cube, 3, (0, 0)));
-    assert!(!has_multiplicity(field, &cube, 4, (0, 0)));
+    for (p, power) in [(3, 3), (16, 2)] {
+        let field = Field::of_size(p).unwrap();
+        let curve = Curve::gather(field, [(Term::new(1, power, 0), 1)]);
+        assert!(has_multiplicity(field, &curve, power, (0, 0)));
+        assert!(!has_multiplicity(field, &curve, power + 1, (0, 0)));
+    }
 }

@@ -1,4 +1,5 @@
-//! The figures of docs/RULES.md, one after another. Field 7, but for the departures.
+//! The figures of docs/RULES.md, one after another. Field 7, but for the departures; of the field of 16 the curve is here, and the others are
+//! in sixteen.rs.
 
 mod common;
 
@@ -255,4 +256,21 @@ fn the_whole_case_of_the_program() {
     let input = b"field=7\nk=2\nm=1\nl=1\nt=2\npoints=1,2,3\nword=1,2,3\n";
     let expected = "answer=0\nupdates=0\nweight=1\ncount=1\nmessage=0,1\n";
     assert_eq!(String::from_utf8(listing(input)).unwrap(), expected);
+}
+
+/// Eight places of 1 + 2x and eight of x: the product of y - 1 - 2x and y - x, where minus is plus.
+#[test]
+fn the_curve_of_two_lines_over_sixteen() {
+    let case = Request {
+        p: 16,
+        points: (0..16).collect(),
+        word: vec![1, 3, 5, 7, 9, 11, 13, 15, 8, 9, 10, 11, 12, 13, 14, 15],
+        k: 2,
+        m: 1,
+        l: 2,
+    };
+    let found = interpolated(&case);
+    let product = curve(&case.setting(), &[&[0, 1, 2], &[1, 3], &[1]]);
+    assert_eq!(found.curve, product);
+    assert_eq!((found.weight, found.height), (2, 2));
 }

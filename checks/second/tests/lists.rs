@@ -32,9 +32,9 @@ fn the_list_is_that_of_trying_all_messages() {
     let mut random = Random::new(20);
     let mut longest = 0;
     for _ in 0..500 {
-        let p = random.pick(&[3, 5, 7, 11]);
+        let p = random.pick(&[3, 5, 7, 11, 16]);
         let n = random.between(3, p.into());
-        let k = random.between(2, (n - 1).min(if p == 11 { 2 } else { 4 }));
+        let k = random.between(2, (n - 1).min(if p >= 11 { 2 } else { 4 }));
         let m = random.between(1, MULTIPLICITY_MOST.into());
         let l = random.between(m, HEIGHT_MOST.into());
         let request = with_numbers(&mut random, p, n, k, m, l);
@@ -70,9 +70,9 @@ fn the_list_is_that_of_trying_all_messages() {
 fn roots_are_all_roots() {
     let mut random = Random::new(21);
     for _ in 0..150 {
-        let p = random.pick(&[3, 5, 7]);
+        let p = random.pick(&[3, 5, 7, 16]);
         let n = random.between(3, p.into());
-        let k = random.between(2, (n - 1).min(3));
+        let k = random.between(2, (n - 1).min(if p == 16 { 2 } else { 3 }));
         let m = random.between(1, MULTIPLICITY_MOST.into());
         let l = random.between(m, HEIGHT_MOST.into());
         let request = with_numbers(&mut random, p, n, k, m, l);

@@ -65,7 +65,7 @@ pub fn interpolated(request: &Request) -> Interpolated {
     }
 }
 
-/// The coefficient of x^i y^j in f(x+a, y+b), the binomials modulo p.
+/// The coefficient of x^i y^j in f(x+a, y+b), the binomials counted in the field.
 pub fn shifted_coefficient(
     field: Field,
     curve: &Curve,
@@ -73,8 +73,7 @@ pub fn shifted_coefficient(
     (i, j): (usize, usize),
 ) -> i64 {
     let terms = curve.terms().iter().filter(|(t, _)| t.x >= i && t.y >= j);
-    let sum = terms.map(|(t, c)| c * condition(field, *t, (a, b), (i, j)));
-    field.reduce(sum.sum())
+    field.total(terms.map(|&(t, c)| field.product(c, condition(field, t, (a, b), (i, j)))))
 }
 
 /// What a single term, with coefficient 1, gives to the coefficient of x^i y^j after the shift.
@@ -172,8 +171,8 @@ impl Combination {
             return;
         }
         let subtract = |from: &mut [i64], other: &[i64]| {
-            for (entry, taken) in from.iter_mut().zip(other) {
-                *entry = field.reduce(*entry - factor * taken);
+            for (entry, &taken) in from.iter_mut().zip(other) {
+                *entry = field.difference(*entry, field.product(factor, taken));
             }
         };
         subtract(&mut self.conditions, &pivot.conditions);
