@@ -118,7 +118,7 @@ impl Asked {
 
     fn spoil(&mut self, random: &mut Random, setting: &Setting, fault: usize) {
         match fault {
-            0 => self.request.p = random.pick(&[0, 1, 2, 4, 9, 15, 16, 27, 33, 37, 255]),
+            0 => self.request.p = random.pick(&[0, 1, 2, 4, 8, 9, 15, 25, 27, 32, 33, 37, 255]),
             1 => self.resize(random.below(3)),
             // More points than symbols, so two are equal too, but 2 comes first.
             2 => self.resize(usize::from(self.request.p.saturating_add(1))),
@@ -173,7 +173,9 @@ impl Asked {
     }
 
     fn spoil_symbol(&mut self, random: &mut Random) {
-        let symbol = random.pick(&[self.request.p, 255]);
+        let p = self.request.p;
+        let any = random.between(p.into(), 255) as u8;
+        let symbol = random.pick(&[p, any, 255]);
         let bytes = match random.below(3) {
             0 => &mut self.request.points,
             1 => &mut self.request.word,

@@ -83,7 +83,7 @@ fn evenly(random: &mut Random) -> Request {
 
 /// Short messages at all points of a small field: lists are longest there.
 fn crowded(random: &mut Random) -> Request {
-    let p = random.pick(&[5, 7, 11, 13]);
+    let p = random.pick(&[5, 7, 11, 13, 16]);
     let k = random.between(2, 3);
     let m = random.between(2, MULTIPLICITY_MOST.into());
     sample::with_numbers(random, p, p.into(), k, m, HEIGHT_MOST.into())
