@@ -1,9 +1,11 @@
 //! Compares the library with the second program: the same calls to both, and every number, note, count and lent byte of
 //! their answers.
 //!
-//! `compare SEED [COUNT]` goes through COUNT sessions, 20,000 if none is given, in each of which every job is called at least once, on a word of
-//! its own, and prints what was compared as Markdown. `compare departures` goes through every departure that there is. At
-//! the first difference the whole case is printed, and the status is 1.
+//! `compare SEED [COUNT]` goes through COUNT sessions, 20,000 if none is given, in each of which every job is called at least
+//! once, on a word of its own, and prints what was compared as Markdown. `compare field P SEED [COUNT]` does the same with all
+//! words in the field of size P, and leaves out the jobs on departures, which are in the field of 31. Faults stay: a request
+//! with a wrong p is in no field, and a wrong note or a spoiled text may say another. `compare departures` goes through every
+//! departure that there is. At the first difference the whole case is printed, and the status is 1.
 
 mod departures;
 mod library;
@@ -12,6 +14,7 @@ mod tally;
 
 use library::Library;
 use second::cases::{Answer, Board, Call, Case, Cases, Jobs, Scale, Second};
+use second::field::FIELDS;
 use second::limits::BOAT_MOST;
 use second::Note;
 use std::process::ExitCode;
@@ -28,10 +31,18 @@ struct Difference {
     library: Answer,
 }
 
-fn compare(seed: u64, count: usize, library: impl Jobs) -> Result<Tally, Box<Difference>> {
+/// So many sessions from a seed.
+struct Sessions {
+    scale: Scale,
+    seed: u64,
+    count: usize,
+}
+
+fn compare(sessions: &Sessions, library: impl Jobs) -> Result<Tally, Box<Difference>> {
+    let &Sessions { scale, seed, count } = sessions;
     let mut board = Board::new(library);
     let mut tally = Tally::default();
-    for case in Cases::new(seed, count, Scale::Wide) {
+    for case in Cases::new(seed, count, scale) {
         let (note, rows) = given(&board, &case.call);
         let library = board.take(&case.call);
         if library != case.answer {
@@ -59,20 +70,41 @@ fn given(board: &Board<impl Jobs>, call: &Call) -> (Note, Vec<u8>) {
 }
 
 enum Asked {
-    Sessions { seed: u64, count: usize },
+    Sessions(Sessions),
     Departures,
 }
 
 fn arguments() -> Option<Asked> {
     let given: Vec<String> = std::env::args().skip(1).collect();
     let given: Vec<&str> = given.iter().map(String::as_str).collect();
-    let (seed, count) = match given[..] {
-        ["departures"] => return Some(Asked::Departures),
+    match &given[..] {
+        ["departures"] => Some(Asked::Departures),
+        ["field", p, sessions @ ..] => asked(Scale::InField(field_size(p)?), sessions),
+        sessions => asked(Scale::Wide, sessions),
+    }
+}
+
+fn field_size(p: &str) -> Option<u8> {
+    let p = p.parse().ok()?;
+    FIELDS.contains(&p).then_some(p)
+}
+
+/// Sessions with a seed and perhaps a count.
+fn asked(scale: Scale, given: &[&str]) -> Option<Asked> {
+    let (seed, count) = match given {
         [seed] => (seed.parse().ok()?, DEFAULT_COUNT),
         [seed, count] => (seed.parse().ok()?, count.parse().ok()?),
         _ => return None,
     };
-    Some(Asked::Sessions { seed, count })
+    Some(Asked::Sessions(Sessions { scale, seed, count }))
+}
+
+/// Which words a run has, where they are not those of all fields.
+fn words_of(scale: Scale) -> String {
+    match scale {
+        Scale::InField(p) => format!("Field {p} alone, without departures. "),
+        _ => String::new(),
+    }
 }
 
 /// What is printed: the tables, or as the error the first case that differs.
@@ -80,10 +112,11 @@ fn run(asked: Asked, library: Library) -> Result<String, String> {
     let begun = Instant::now();
     let seconds = || begun.elapsed().as_secs();
     match asked {
-        Asked::Sessions { seed, count } => {
-            let tally =
-                compare(seed, count, library).map_err(|found| report::difference(&found))?;
-            let head = format!("Seed {seed}, {count} sessions, {} seconds.", seconds());
+        Asked::Sessions(sessions) => {
+            let tally = compare(&sessions, library).map_err(|found| report::difference(&found))?;
+            let Sessions { scale, seed, count } = sessions;
+            let (words, seconds) = (words_of(scale), seconds());
+            let head = format!("{words}Seed {seed}, {count} sessions, {seconds} seconds.");
             Ok(format!("{head}\n\n{}", report::report(&tally)))
         }
         Asked::Departures => {
@@ -96,7 +129,9 @@ fn run(asked: Asked, library: Library) -> Result<String, String> {
 
 fn main() -> ExitCode {
     let Some(asked) = arguments() else {
-        eprintln!("usage: compare SEED [COUNT], or compare departures");
+        eprintln!(
+            "usage: compare SEED [COUNT], compare field P SEED [COUNT], or compare departures"
+        );
         return ExitCode::FAILURE;
     };
     let library = match Library::new() {
@@ -122,7 +157,7 @@ fn main() -> ExitCode {
 mod tests {
     use super::*;
     use second::{Departure, Heard, Listed, Request};
-    use tally::Job;
+    use tally::{Job, JobTally};
 
     /// The second program again, with one job that is wrong in one number or byte.
     struct Wrong(Job);
@@ -196,24 +231,57 @@ mod tests {
         }
     }
 
+    fn wide(seed: u64, count: usize) -> Sessions {
+        let scale = Scale::Wide;
+        Sessions { scale, seed, count }
+    }
+
+    fn in_field(p: u8, seed: u64, count: usize) -> Sessions {
+        let scale = Scale::InField(p);
+        Sessions { scale, seed, count }
+    }
+
     #[test]
     fn the_library_says_the_same() {
-        let tally = compare(2, 60, Library::new().unwrap());
+        let tally = compare(&wide(2, 60), Library::new().unwrap());
         assert!(tally.is_ok_and(|tally| tally.calls() > 600));
+    }
+
+    #[test]
+    fn the_library_says_the_same_in_every_field() {
+        for p in FIELDS {
+            let tally = compare(&in_field(p, 2, 20), Library::new().unwrap());
+            assert!(tally.is_ok_and(|tally| tally.calls() > 100), "{p}");
+        }
     }
 
     #[test]
     fn a_wrong_job_is_found() {
         for (job, name) in report::JOBS {
-            assert!(compare(2, 1, Wrong(job)).is_err(), "{name}");
+            assert!(compare(&wide(2, 1), Wrong(job)).is_err(), "{name}");
+            let found = compare(&in_field(16, 2, 1), Wrong(job)).is_err();
+            assert_eq!(found, job.has_field(), "{name}");
         }
     }
 
     #[test]
     fn every_job_has_a_word_of_its_own_in_each_session() {
-        let tally = compare(3, 40, Second).ok().unwrap();
+        let tally = compare(&wide(3, 40), Second).ok().unwrap();
         for (job, name) in report::JOBS {
             assert!(tally.of(job).words >= 40, "{name}");
+        }
+    }
+
+    #[test]
+    fn all_words_but_spoiled_texts_are_in_the_one_field_or_in_none() {
+        for (place, p) in FIELDS.into_iter().enumerate() {
+            let tally = compare(&in_field(p, 3, 40), Second).ok().unwrap();
+            for (job, name) in report::JOBS {
+                let JobTally { words, fields, .. } = tally.of(job);
+                let in_it_or_none = fields[place] + fields[FIELDS.len()];
+                assert!(job == Job::Program || in_it_or_none == *words, "{name}");
+                assert!(!job.has_field() || fields[place] >= 20, "{name}");
+            }
         }
     }
 

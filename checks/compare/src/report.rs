@@ -3,6 +3,7 @@
 use crate::departures::Line;
 use crate::tally::{Job, JobTally, Tally, VALUES};
 use crate::Difference;
+use second::field::FIELDS;
 
 pub const JOBS: [(Job, &str); 10] = [
     (Job::Encode, "encode"),
@@ -20,8 +21,17 @@ pub const JOBS: [(Job, &str); 10] = [
 /// The tables of a run in which nothing differs.
 pub fn report(tally: &Tally) -> String {
     let calls = tally.calls();
-    let tables = [numbers(tally), values(tally), lists(tally), heard(tally)];
+    let mut tables = vec![numbers(tally), fields(tally), values(tally), lists(tally)];
+    if tally.of(Job::Hear).calls > 0 {
+        tables.push(heard(tally));
+    }
     format!("Of {calls} calls 0 differ.\n\n{}", tables.join("\n"))
+}
+
+/// The jobs that were called, with their names.
+fn called(tally: &Tally) -> impl Iterator<Item = (Job, &'static str)> + '_ {
+    let jobs = JOBS.into_iter();
+    jobs.filter(|&(job, _)| tally.of(job).calls > 0)
 }
 
 /// Calls and words of each job, and how often each number was given.
@@ -29,7 +39,7 @@ fn numbers(tally: &Tally) -> String {
     let heads = ["job", "calls", "words"].map(String::from).into_iter();
     let heads = heads.chain((0..=15).map(|number| number.to_string()));
     let mut table = head(heads.chain(["late 11".to_string()]).collect());
-    for (job, name) in JOBS {
+    for (job, name) in called(tally) {
         let JobTally {
             calls,
             words,
@@ -44,11 +54,23 @@ fn numbers(tally: &Tally) -> String {
     table
 }
 
+/// The words of each field.
+fn fields(tally: &Tally) -> String {
+    let sizes = FIELDS.iter().map(u8::to_string);
+    let heads = ["words in field".to_string()].into_iter().chain(sizes);
+    let mut table = head(heads.chain(["none".to_string()]).collect());
+    for (job, name) in called(tally).filter(|(job, _)| job.has_field()) {
+        let words = tally.of(job).fields.iter().map(usize::to_string);
+        table += &row([name.to_string()].into_iter().chain(words).collect());
+    }
+    table
+}
+
 /// The values met in calls that were answered with 0.
 fn values(tally: &Tally) -> String {
     let heads = ["job"].into_iter().chain(VALUES).map(String::from);
     let mut table = head(heads.collect());
-    for (job, name) in JOBS {
+    for (job, name) in called(tally) {
         let met = tally.of(job).met.iter();
         let cells = met.map(|values| match (values.first(), values.last()) {
             (Some(first), Some(last)) => format!("{} from {first} to {last}", values.len()),

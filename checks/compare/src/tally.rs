@@ -1,6 +1,7 @@
 //! What was compared, counted.
 
 use second::cases::{Answer, Call, Case};
+use second::field::FIELDS;
 use second::limits::HEIGHT_MOST;
 use second::{Departure, Heard, Note, Request};
 use std::collections::BTreeSet;
@@ -19,11 +20,19 @@ pub enum Job {
     Hear,
 }
 
+impl Job {
+    /// Whether it is asked in any field; departures have no other than that of 31.
+    pub fn has_field(self) -> bool {
+        !matches!(self, Job::Write | Job::Read | Job::Show | Job::Hear)
+    }
+}
+
 /// The names of the values that a call is about: first those of [`Numbers`], then a departure's.
 pub const VALUES: [&str; 9] = ["p", "n", "k", "m", "l", "t", "boat", "day", "minute"];
 
 /// None where the job has no such value.
-type Values = [Option<u16>; VALUES.len()];
+type Values = [Value; VALUES.len()];
+type Value = Option<u16>;
 
 /// p, n, k, m, l and t, for the jobs on words.
 type Numbers = [Option<u8>; 6];
@@ -32,13 +41,15 @@ type Numbers = [Option<u8>; 6];
 pub struct JobTally {
     pub calls: usize,
     pub words: usize,
+    /// The words by their fields, in the order of `FIELDS`; the last are those whose p is no field's, and texts that cannot be read.
+    pub fields: [usize; FIELDS.len() + 1],
     pub numbers: [usize; 16],
     /// Of the calls with number 11, those that made updates.
     pub late: usize,
     /// The values met in calls that were answered with 0.
     pub met: [BTreeSet<u16>; VALUES.len()],
-    /// Whether the last start gave a word that this job has not been called on.
-    awaited: bool,
+    /// The p of the word that the last start gave, if this job has not been called on it.
+    awaited: Option<Value>,
 }
 
 #[derive(Default)]
@@ -91,9 +102,10 @@ impl Tally {
     }
 
     fn add(&mut self, seen: &Seen) {
-        let started = seen.job == Job::Start && seen.number == 0;
-        for job in [Job::Turn, Job::Finish] {
-            self.jobs[job as usize].awaited |= started;
+        if seen.job == Job::Start && seen.number == 0 {
+            for job in [Job::Turn, Job::Finish] {
+                self.jobs[job as usize].awaited = Some(seen.p());
+            }
         }
         self.jobs[seen.job as usize].add(seen);
     }
@@ -101,9 +113,14 @@ impl Tally {
 
 impl JobTally {
     fn add(&mut self, seen: &Seen) {
-        let own_word = !matches!(seen.job, Job::Turn | Job::Finish);
-        self.words += usize::from(own_word || self.awaited);
-        self.awaited = false;
+        let word = match seen.job {
+            Job::Turn | Job::Finish => self.awaited.take(),
+            _ => Some(seen.p()),
+        };
+        if let Some(p) = word {
+            self.words += 1;
+            self.fields[place(p)] += 1;
+        }
         self.calls += 1;
         self.numbers[usize::from(seen.number)] += 1;
         self.late += usize::from(seen.number == 11 && seen.updates > 0);
@@ -113,6 +130,20 @@ impl JobTally {
             }
         }
     }
+}
+
+impl Seen {
+    /// The field size; a text that cannot be read has none.
+    fn p(&self) -> Value {
+        self.values[0].filter(|_| self.number != 14)
+    }
+}
+
+/// Where the words of a field are counted.
+fn place(p: Value) -> usize {
+    let mut sizes = FIELDS.into_iter();
+    let found = sizes.position(|size| p == Some(size.into()));
+    found.unwrap_or(FIELDS.len())
 }
 
 fn seen(case: &Case, note: Note) -> Option<Seen> {

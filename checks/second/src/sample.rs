@@ -15,6 +15,11 @@ use crate::slots::write_rows;
 /// Any field, any number of points, any k, m and l.
 pub fn request(random: &mut Random) -> Request {
     let p = random.pick(&FIELDS);
+    in_field(random, p)
+}
+
+/// Any number of points, any k, m and l, in the field of size p.
+pub fn in_field(random: &mut Random, p: u8) -> Request {
     let n = random.between(3, usize::from(p));
     let k = random.between(2, n - 1);
     let m = random.between(1, MULTIPLICITY_MOST.into());

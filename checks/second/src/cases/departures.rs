@@ -69,7 +69,7 @@ fn wrong_length(random: &mut Random, scale: Scale) -> usize {
     let lengths = [0, 5, 7, 12, 255, 6 + (1 << 8), 6 + (1 << 16)];
     let met = match scale {
         Scale::Kept => 5,
-        Scale::Wide => lengths.len(),
+        _ => lengths.len(),
     };
     random.pick(&lengths[..met])
 }

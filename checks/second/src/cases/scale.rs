@@ -1,4 +1,4 @@
-//! How large the cases are.
+//! How large the cases are, and in which fields.
 
 use crate::field::FIELDS;
 use crate::limits::{DEPARTURE_FIELD, DEPARTURE_SYMBOLS};
@@ -13,18 +13,23 @@ pub enum Scale {
     Kept,
     /// For comparing in memory: any numbers, and any rows.
     Wide,
+    /// The same with every word in the field of this size, and without the jobs on departures, which are in the field of 31.
+    InField(u8),
 }
 
 impl Scale {
     /// A request that no job refuses; the largest rooms are in each scale, once in eight times.
     pub(super) fn request(self, random: &mut Random) -> Request {
         match (random.below(8), self) {
-            (0, _) => largest(random),
+            (0, Scale::InField(p)) => largest(random, p),
+            (1, Scale::InField(p)) => crowded(random, p),
+            (_, Scale::InField(p)) => sample::in_field(random, p),
+            (0, _) => largest(random, FIELD_MOST),
             (1..=3, Scale::Kept) => small(random, 10, 3, 5),
             (4 | 5, Scale::Kept) => small(random, 5, 2, 3),
             (_, Scale::Kept) => evenly(random),
-            (1, Scale::Wide) => crowded(random),
-            _ => sample::request(random),
+            (1, Scale::Wide) => crowded_in_any(random),
+            (_, Scale::Wide) => sample::request(random),
         }
     }
 
@@ -36,7 +41,7 @@ impl Scale {
         let (most_m, most_l) = match (random.below(8), self) {
             (0, _) => (MULTIPLICITY_MOST, HEIGHT_MOST),
             (_, Scale::Kept) => (2, 4),
-            (_, Scale::Wide) => (3, 6),
+            _ => (3, 6),
         };
         let m = random.between(1, most_m.into());
         let l = random.between(m, most_l.into());
@@ -47,7 +52,7 @@ impl Scale {
     pub(super) fn faults(self) -> usize {
         match self {
             Scale::Kept => 10,
-            Scale::Wide => 11,
+            _ => 11,
         }
     }
 
@@ -55,16 +60,20 @@ impl Scale {
     pub(super) fn most_changes(self) -> usize {
         match self {
             Scale::Kept => 56,
-            Scale::Wide => usize::MAX,
+            _ => usize::MAX,
         }
+    }
+
+    pub(super) fn has_departures(self) -> bool {
+        !matches!(self, Scale::InField(_))
     }
 }
 
-fn largest(random: &mut Random) -> Request {
-    let n = usize::from(FIELD_MOST);
+fn largest(random: &mut Random, p: u8) -> Request {
+    let n = usize::from(p);
     let k = random.between(2, n - 1);
     let (m, l) = (MULTIPLICITY_MOST.into(), HEIGHT_MOST.into());
-    sample::with_numbers(random, FIELD_MOST, n, k, m, l)
+    sample::with_numbers(random, p, n, k, m, l)
 }
 
 /// Every n as often as any other, so that few requests meet them all.
@@ -81,10 +90,15 @@ fn evenly(random: &mut Random) -> Request {
     sample::with_numbers(random, p, n, k, m, l)
 }
 
-/// Short messages at all points of a small field: lists are longest there.
-fn crowded(random: &mut Random) -> Request {
+/// In a small field, where lists are longest.
+fn crowded_in_any(random: &mut Random) -> Request {
     let p = random.pick(&[5, 7, 11, 13, 16]);
-    let k = random.between(2, 3);
+    crowded(random, p)
+}
+
+/// Short messages at all points.
+fn crowded(random: &mut Random, p: u8) -> Request {
+    let k = random.between(2, usize::from(p - 1).min(3));
     let m = random.between(2, MULTIPLICITY_MOST.into());
     sample::with_numbers(random, p, p.into(), k, m, HEIGHT_MOST.into())
 }

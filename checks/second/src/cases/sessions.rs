@@ -14,8 +14,8 @@ pub struct Case {
     pub answer: Answer,
 }
 
-/// The cases of so many sessions. In each of them every job is called at least once, start, turn and finish on a word
-/// that start does not refuse.
+/// The cases of so many sessions. In each of them every job that the scale has is called at least once, start, turn and
+/// finish on a word that start does not refuse.
 pub struct Cases {
     random: Random,
     scale: Scale,
@@ -74,12 +74,11 @@ impl Cases {
         let mut calls = vec![
             Asked::sound(random, scale).encode(),
             Asked::near(random, scale).list(),
-            departures::write(random),
-            departures::read(random, scale),
-            departures::show(random),
-            Asked::heard(random, scale).hear(),
-            text::program(random, scale),
         ];
+        if scale.has_departures() {
+            calls.extend(on_departures(random, scale));
+        }
+        calls.push(text::program(random, scale));
         let faulty = Asked::faulty(random, scale);
         match random.below(3) {
             0 => calls.push(faulty.encode()),
@@ -257,4 +256,14 @@ impl Cases {
         }
         few
     }
+}
+
+/// One call of each job on departures.
+fn on_departures(random: &mut Random, scale: Scale) -> [Call; 4] {
+    [
+        departures::write(random),
+        departures::read(random, scale),
+        departures::show(random),
+        Asked::heard(random, scale).hear(),
+    ]
 }
