@@ -7,7 +7,7 @@ use crate::refusal::{outcome, Outcome};
 /// What start and list are asked about: a received word, with the numbers that belong to it.
 #[derive(Clone, Copy, PartialEq, Eq, Debug)]
 pub struct Request<'a> {
-    /// The field size.
+    /// The field size, a prime or 16: there the bits of a symbol are the coefficients of a polynomial, modulo x^4+x+1.
     pub p: u8,
     pub points: &'a [u8],
     pub word: &'a [u8],

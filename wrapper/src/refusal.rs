@@ -50,7 +50,7 @@ impl Refusal {
 
     fn meaning(self) -> &'static str {
         match self {
-            Refusal::Field => "p is not in the list 3, 5, 7, 11, 13, 17, 19, 23, 29, 31",
+            Refusal::Field => "p is not in the list 3, 5, 7, 11, 13, 16, 17, 19, 23, 29, 31",
             Refusal::Count => "n below 3 or above p",
             Refusal::Length => "the word's length is not n",
             Refusal::Degree => "k below 2 or above n-1",

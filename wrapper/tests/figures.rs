@@ -1,4 +1,4 @@
-//! The figures of docs/RULES.md. Field 7, but for the departures.
+//! The figures of docs/RULES.md. Field 7, but for the departures; those of the field of 16 are in sixteen.rs.
 
 mod common;
 

@@ -1,6 +1,6 @@
-//! What stands here and in crates/boards/include/pluck.h too: the version, the limits and the numbers.
+//! What stands here and in crates/boards/include/pluck.h too: the version, the limits, the numbers and the sizes of fields.
 
-use pluck::Refusal;
+use pluck::{encode, Refusal};
 
 const HEADER: &str = include_str!("../../crates/boards/include/pluck.h");
 
@@ -70,4 +70,20 @@ fn the_numbers_are_those_of_the_header() {
         assert!(numbers().contains(&(name, number)), "{name} = {number}");
     }
     assert_eq!(numbers().len(), known.len());
+}
+
+/// The numbers, with commas between them, that follow some words.
+fn listed(text: &str, words: &str) -> Vec<u8> {
+    let (_, rest) = text.split_once(words).expect("the words are there");
+    let number = |piece: &str| piece.split_whitespace().next()?.parse().ok();
+    rest.split(", ").map_while(number).collect()
+}
+
+#[test]
+fn the_sizes_are_those_of_the_header_and_of_the_library() {
+    let sizes = listed(HEADER, "p is none of ");
+    let refusal = Refusal::Field.to_string();
+    assert_eq!(listed(&refusal, "p is not in the list "), sizes);
+    let goes = |&p: &u8| encode(p, &[0, 1, 2], &[1, 1], &mut [0; 3]) != Err(Refusal::Field);
+    assert_eq!((0..=255).filter(goes).collect::<Vec<u8>>(), sizes);
 }

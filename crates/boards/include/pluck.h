@@ -7,6 +7,8 @@
    - A room is an address and a length in bytes. An address is never null, also where the length is 0. A room that a call may write
      overlaps no other that it is lent. A room may be longer than asked for: its excess is never written.
    - A call keeps nothing: all there is of an interpolation is its rows and its note, and both belong to the caller.
+   - p is the size of a field, and a symbol is a byte below p. Symbols count modulo p where p is a prime. With p = 16 bit i of a symbol is
+     the coefficient of x^i in a polynomial over 0 and 1: symbols are added by exclusive or, and multiplied modulo x^4 + x + 1.
    - `note`, `back`, `departure` and `heard` are lent rooms as any other: where one is too short the number is 9, at the place of 9 in the
      call's order. But a turn and a finish cannot read a note that is too short: there 9 comes before anything else. */
 #ifndef PLUCK_H
@@ -46,7 +48,7 @@ extern "C" {
 /* The numbers that a call returns. */
 enum {
     PLUCK_DONE = 0,
-    PLUCK_FIELD = 1,      /* p is none of 3, 5, 7, 11, 13, 17, 19, 23, 29, 31 */
+    PLUCK_FIELD = 1,      /* p is none of 3, 5, 7, 11, 13, 16, 17, 19, 23, 29, 31 */
     PLUCK_COUNT = 2,      /* n, the count of points, is below 3 or above p */
     PLUCK_LENGTH = 3,     /* the word's length is not n */
     PLUCK_DEGREE = 4,     /* k is below 2 or above n - 1 */
