@@ -1,6 +1,7 @@
 /* The library against the plain program and the second program, job by job: first every byte compared, then the time of each. Prints tables, and
    ends with status 1 if a byte differs, or if interpolation or the list takes the library more than twice the plain program's time at any
-   count of errors. */
+   count of errors. In the field of 16 the second program is compared in place of the plain one, and the library's times stand beside those of
+   the field of 17. */
 #include "fields.h"
 #include "programs.h"
 #include "table.h"
@@ -9,7 +10,7 @@
 #include <string.h>
 
 /* Of a departure up to 15 symbols are wrong. */
-enum { ERRORS = 15, T = N - ERRORS, WORDS = 3, CASES = 2000 };
+enum { ERRORS = 15, T = N - ERRORS, WORDS = 3, CASES = 2000, SIXTEEN = 16, NEXT = 17 };
 
 /* ---- the same bytes ---- */
 
@@ -21,27 +22,30 @@ static request any_setting(void) {
     return q;
 }
 
-static void run_both(int job, const request *q, side *library, side *plain) {
+/* The plain program counts modulo p. In the field of 16 the second program is there in its place. */
+static int rival(const request *q) { return q->p == SIXTEEN ? SECOND : PLAIN; }
+
+static void run_both(int job, const request *q, side *library, side *other) {
     run(LIBRARY, job, q, library);
-    run(PLAIN, job, q, plain);
-    compare(job, q, library, plain);
+    run(rival(q), job, q, other);
+    compare(job, q, library, other);
 }
 
 /* All five jobs, the turns with allowances by chance; the number of the list. */
 static int compare_case(const request *q) {
-    static side library, plain;
+    static side library, other;
     memset(&library, 0, sizeof library);
-    memset(&plain, 0, sizeof plain);
-    run_both(ENCODE, q, &library, &plain);
-    run_both(START, q, &library, &plain);
+    memset(&other, 0, sizeof other);
+    run_both(ENCODE, q, &library, &other);
+    run_both(START, q, &library, &other);
     while (library.note[PLUCK_NOTE_R] <= q->l) {
         int allowance = (int)any(60);
         run_turn(LIBRARY, &library, allowance);
-        run_turn(PLAIN, &plain, allowance);
-        compare(TURN, q, &library, &plain);
+        run_turn(rival(q), &other, allowance);
+        compare(TURN, q, &library, &other);
     }
-    run_both(FINISH, q, &library, &plain);
-    run_both(LIST, q, &library, &plain);
+    run_both(FINISH, q, &library, &other);
+    run_both(LIST, q, &library, &other);
     return library.number;
 }
 
@@ -51,7 +55,7 @@ static void compare_all(void) {
         request q = any_setting();
         listed += compare_case(&q) == PLUCK_DONE;
     }
-    printf("The same bytes after every call in %d requests over all ten fields; %d of them had a list, the others number 13.\n\n", CASES, listed);
+    printf("The same bytes after every call in %d requests over all fields; %d of them had a list, the others number 13.\n\n", CASES, listed);
 }
 
 /* ---- the jobs, by errors ---- */
@@ -207,6 +211,32 @@ static measured many_roots(void) {
     return s;
 }
 
+/* ---- the field of 16 beside the next prime ---- */
+
+static const manner ALONE = {1, 15};
+
+/* A word by chance in every symbol, at sixteen points of this field. */
+static void measure_sixteen(measured *sum, int p) {
+    request q = any_request(p, SIXTEEN, 4, M, L, SIXTEEN, 0);
+    any_word(&q);
+    measure_word(sum, ALONE, &q);
+}
+
+static void sixteen_symbols(void) {
+    static const column columns[] = {{"field 16 us", 1}, {"field 17 us", 1}, {"ratio", 2}};
+    const table jobs = {"job            ", 3, columns};
+    measured sixteen = {0}, next = {0};
+    for (int i = 0; i < WORDS; i++) measure_sixteen(&sixteen, SIXTEEN), measure_sixteen(&next, NEXT);
+    printf("n = %d, k = 4, m = %d, l = %d, %d words of symbols by chance: ", SIXTEEN, M, L, WORDS);
+    printf("%d updates a word in the field of 16, %d in that of 17.\n\n", sixteen.updates / WORDS, next.updates / WORDS);
+    print_head(&jobs);
+    for (int j = 0; j < JOBS; j++) {
+        double a = sixteen.of[j].of[LIBRARY] / WORDS / 1000, b = next.of[j].of[LIBRARY] / WORDS / 1000;
+        print_row(&jobs, JOB[j], (double[]){a, b, a / b});
+    }
+    printf("\n");
+}
+
 int main(void) {
     compare_all();
     printf("### Words with 0 to %d errors\n\n", ERRORS);
@@ -221,6 +251,8 @@ int main(void) {
     printf("### As many messages as a list can have\n\n");
     measured many = many_roots();
     print_jobs(&many, PLAIN);
+    printf("### Sixteen symbols\n\n");
+    sixteen_symbols();
     printf("The worst of all lines, each to be at most 2: interpolation=%.2f list=%.2f\n\n", worst[INTERPOLATION], worst[LIST]);
     return worst[INTERPOLATION] > 2 || worst[LIST] > 2;
 }

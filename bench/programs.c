@@ -33,7 +33,8 @@ request any_request(int p, int n, int k, int m, int l, int t, int errors) {
     uint8_t wrong[PLUCK_FIELD_MOST];
     shuffle(q.points, p);
     for (int i = 0; i < k; i++) q.message[i] = (uint8_t)any((unsigned)p);
-    plain_encode(p, q.points, n, q.message, k, q.word);
+    /* by the library: the plain program has not all fields */
+    pluck_encode(q.p, q.points, q.n, q.message, q.k, q.word, sizeof q.word);
     shuffle(wrong, n);
     for (int i = 0; i < errors; i++) q.word[wrong[i]] = (uint8_t)((q.word[wrong[i]] + 1 + (int)any((unsigned)p - 1)) % p);
     return q;
