@@ -22,7 +22,7 @@ extern "C" {
 #endif
 
 /* The version of the library: that of the file VERSION at the top of the repository. */
-#define PLUCK_VERSION "0.2.1"
+#define PLUCK_VERSION "0.3.0"
 
 /* The limits (docs/RULES.md). Where one follows from others, it says how; PLUCK_W and the sizes stand below. */
 #define PLUCK_FIELD_MOST 31        /* the largest field size, so the most points */
