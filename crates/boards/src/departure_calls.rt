@@ -13,7 +13,7 @@ const DEPARTURE_BYTES: usize = 5;
 const HEARD_BYTES: usize = 6;
 
 // What hear hands back to C; zero stands for what there is not.
-#[derive(Drop)]
+#[derive(Clone, Copy)]
 pub struct HeardBack {
     pub number: u8,
     pub departure: Departure,

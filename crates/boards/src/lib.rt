@@ -1,6 +1,8 @@
 // The jobs for C: numbers pass as themselves, a slice as its address and its length. A note is six lent bytes, and what a job hands back
 // beside its number goes into five: include/pluck.h says the same to whoever calls. Where one of the two is too short the job is asked with
 // no room at all: it refuses in its own order, at the latest with 9. A turn and a finish need the note for that, and give 9 without it.
+#![tactic(auto)]
+
 ghost use Rattle.std.specs.Prelude.{◌≡◌, ◌≤◌, length};
 ghost use Rattle.poly.specs.Encode.{Encoded};
 ghost use Rattle.boards.specs.Lent.{note_bytes, back_bytes, note_of, note_into, back_into, Cleared};
@@ -15,7 +17,7 @@ const NOTE_BYTES: usize = 6;
 const BACK_BYTES: usize = 5;
 
 // What jobs hand back beside their number; zero stands for what a job does not have.
-#[derive(Drop)]
+#[derive(Clone, Copy)]
 pub struct Back {
     pub updates: u16,
     pub weight: u8,

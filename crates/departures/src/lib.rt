@@ -1,5 +1,7 @@
 // Departures as messages: a boat, a service day and a minute of it in six symbols, and the board's question which one was sent. The day ends
 // when the last boat ties up, so no minute is wrapped at 1,440.
+#![tactic(auto)]
+
 ghost use Rattle.departures.specs.Jobs.{WritesDeparture, ReadsDeparture, ShowsDeparture};
 ghost use Rattle.departures.specs.Hearing.{HasHeard};
 
@@ -11,7 +13,7 @@ pub mod limits; // limits.rt: the numbers of a departure
 mod refusals; // refusals.rt: the refusals of the writer, the reader and the printer
 mod spelling; // spelling.rt: a departure's six symbols
 
-#[derive(Drop)]
+#[derive(Clone, Copy)]
 pub struct Departure {
     pub boat: u8,
     pub day: u16,
@@ -25,14 +27,14 @@ pub const ZERO_DEPARTURE: Departure = Departure {
     minute: 0,
 };
 
-#[derive(Drop)]
+#[derive(Clone, Copy)]
 pub struct Reading {
     pub number: u8,
     pub departure: Departure,
 }
 
 // What a board hears.
-#[derive(Drop)]
+#[derive(Clone, Copy)]
 pub enum Heard {
     None,
     One(Departure),

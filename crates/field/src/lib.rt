@@ -1,4 +1,6 @@
 // Symbols: the numbers 0 to p-1, one byte each, where p is a field size. The fields are those modulo a prime, and the field of 16.
+#![tactic(auto)]
+
 ghost use Rattle.std.specs.Prelude.{◌≡◌, ◌%◌, ◌<◌};
 ghost use Rattle.field.specs.Symbols.{listed, symbols};
 ghost use Rattle.field.specs.Operations.{Operand, Operands, plus_bytes, minus_bytes, times_bytes, neg_byte, inv_byte, pow_byte, Listed};
@@ -20,7 +22,7 @@ pub fn is_listed(p: u8) -> bool
     }
 }
 
-#[derive(Drop)]
+#[derive(Clone, Copy)]
 pub struct Symbol {
     pub value: u8,
 }

@@ -1,5 +1,7 @@
 // Runs the figures of docs/RULES.md, section 18; what it prints is held against stdout. The starred ones are proved besides
 // (specs/Figures.antt). A message or a word is given as a decimal number, a digit for each symbol, and a departure's message as it is.
+#![tactic(auto)]
+
 use departures::Departure;
 use departures::limits::DEPARTURE_SYMBOLS;
 use libc::STDOUT_FILENO;

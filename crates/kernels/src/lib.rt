@@ -1,4 +1,6 @@
 // For a measurement in C: the inverse, and the row update as the field crate has it and with a plain remainder, for the primes alone.
+#![tactic(auto)]
+
 ghost use Rattle.std.specs.Prelude.{◌≡◌, ◌≢◌};
 ghost use Rattle.field.specs.Operations.{Operand, inv_byte};
 ghost use Rattle.field.specs.Kernels.{Subtracts, subtracted};

@@ -1,4 +1,6 @@
 // Reads a request, and prints the answer with the messages near the received word.
+#![tactic(auto)]
+
 use libc::{STDIN_FILENO, STDOUT_FILENO};
 
 // A text that fills the buffer is longer than any that can be read.

@@ -1,4 +1,6 @@
 // The messages near a received word, in one call.
+#![tactic(auto)]
+
 ghost use Rattle.std.specs.Prelude.{◌≤◌, length};
 ghost use Rattle.poly.specs.Table.{First};
 ghost use Rattle.rows.specs.Bytes.{shape, curve_bytes};
@@ -11,7 +13,7 @@ use poly::limits::{ALLOWANCE_MOST, CURVE_MOST, WORKING_ROOM};
 mod refusals; // refusals.rt: the refusals of the list job
 mod search; // search.rt: the messages found on the curve, symbol by symbol
 
-#[derive(Drop)]
+#[derive(Clone, Copy)]
 pub struct Near {
     pub number: u8,
     pub count: u8,
@@ -20,7 +22,7 @@ pub struct Near {
 }
 
 // What interpolation hands over beside the curve.
-#[derive(Drop)]
+#[derive(Clone, Copy)]
 pub struct Weighed {
     pub updates: u16,
     pub weight: u8,

@@ -13,7 +13,7 @@ use field::Symbol;
 use rows::Shape;
 
 // What a search goes by: the shape of its curve, the symbols of a message and the agreements wanted.
-#[derive(Drop)]
+#[derive(Clone, Copy)]
 pub struct Plan {
     pub shape: Shape,
     pub k: usize,

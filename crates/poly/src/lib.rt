@@ -1,4 +1,6 @@
 // Polynomials in x in lent bytes, lowest power first, and the job encode.
+#![tactic(auto)]
+
 ghost use Rattle.std.specs.Prelude.{◌≡◌, ◌+◌, ◌≤◌, min, length};
 ghost use Rattle.poly.specs.Encode.{Encoded, value_at};
 ghost use Rattle.poly.specs.Buffers.{Coefficients, Factors, product_from, Product, Halves, correction_of, Places, Interpolated};

@@ -1,4 +1,6 @@
 // The program's answer to a text, in lent bytes: the request is read, the near messages are listed, the lines are written.
+#![tactic(auto)]
+
 ghost use Rattle.std.specs.Prelude.{◌≤◌, length};
 ghost use Rattle.program.specs.Program.{Answered};
 

@@ -5,7 +5,7 @@ use libc::STDIN_FILENO;
 
 // Of the jobs on departures, write and show have the boat as p, the day as allowance and the minute as second length; read has its message as
 // symbols without points, and hear is as list.
-#[derive(Drop)]
+#[derive(Clone, Copy)]
 pub struct Call {
     pub job: u8,
     pub p: u8,

@@ -1,6 +1,8 @@
 // Replays stored calls: reads them from standard input, makes each call to the library and prints what came back. Its files stdin and stdout
 // are made by `vectors` of checks/second (see its README.md), so what is printed is held to the second program's answers. The rows and the note
 // are kept from one call to the next, as a board keeps them.
+#![tactic(auto)]
+
 ghost use Rattle.std.specs.Prelude.{◌≤◌, length};
 
 use calls::Call;

@@ -6,7 +6,7 @@ ghost use Rattle.rows.specs.Work.{Bytes, LightRow, SizeTo, Heavier, FoundLead};
 
 use crate::Shape;
 
-#[derive(Drop)]
+#[derive(Clone, Copy)]
 pub struct Found {
     pub some: bool,
     pub weight: usize,

@@ -1,4 +1,6 @@
 // The rows of an interpolation in lent bytes: start, turn and finish.
+#![tactic(auto)]
+
 ghost use Rattle.std.specs.Prelude.{◌≡◌, ◌<◌};
 ghost use Rattle.rows.specs.Jobs.{HasStarted, HasTurned, HasFinished, at_row, with_note};
 ghost use Rattle.rows.specs.Work.{Ready, Went};
@@ -13,7 +15,7 @@ mod lightest; // lightest.rt: the lightest row
 
 pub use refusals::refuse_request;
 
-#[derive(Drop)]
+#[derive(Clone, Copy)]
 pub struct Note {
     pub p: u8,
     pub n: u8,
@@ -24,7 +26,7 @@ pub struct Note {
 }
 
 // The numbers by which the bytes of rows are read: u = k - 1, and the width W, above which no term weighs.
-#[derive(Drop)]
+#[derive(Clone, Copy)]
 pub struct Shape {
     pub p: u8,
     pub u: usize,
@@ -32,13 +34,13 @@ pub struct Shape {
     pub l: usize,
 }
 
-#[derive(Drop)]
+#[derive(Clone, Copy)]
 pub struct Started {
     pub number: u8,
     pub note: Note,
 }
 
-#[derive(Drop)]
+#[derive(Clone, Copy)]
 pub struct Turned {
     pub number: u8,
     pub note: Note,
@@ -46,13 +48,13 @@ pub struct Turned {
 }
 
 // What a turn in place hands back.
-#[derive(Drop)]
+#[derive(Clone, Copy)]
 pub struct Made {
     pub number: u8,
     pub updates: u16,
 }
 
-#[derive(Drop)]
+#[derive(Clone, Copy)]
 pub struct Finished {
     pub number: u8,
     pub weight: u8,

@@ -10,7 +10,7 @@ ghost use Rattle.rows.specs.Work.{Whole, HandsOver, copied_from};
 use crate::Shape;
 use field::Symbol;
 
-#[derive(Drop)]
+#[derive(Clone, Copy)]
 pub struct Light {
     pub row: usize,
     pub weight: usize,

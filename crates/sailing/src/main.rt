@@ -1,4 +1,6 @@
 // A departure's way from the writer to the board: written, encoded, disturbed by the radio, heard and printed.
+#![tactic(auto)]
+
 ghost use Rattle.std.specs.Prelude.{◌≡◌, ◌≤◌, ◌<◌, length};
 ghost use Rattle.departures.specs.Departures.{InRange, departure_field};
 ghost use Rattle.departures.specs.Hearing.{Hears};

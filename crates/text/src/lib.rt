@@ -1,4 +1,6 @@
 // The program's text: a request is read from seven lines, and an answer is written as lines, both in lent bytes.
+#![tactic(auto)]
+
 ghost use Rattle.std.specs.Prelude.{◌≡◌};
 ghost use Rattle.text.specs.Requests.{HasRead, unread};
 ghost use Rattle.text.specs.Answers.{reply, HasWritten};
@@ -8,7 +10,7 @@ use poly::limits::FIELD_MOST;
 mod reading; // reading.rt: keys, numbers and lines in a text
 mod writing; // writing.rt: numbers and lines put into a buffer
 
-#[derive(Drop)]
+#[derive(Clone, Copy)]
 pub struct Request {
     pub ok: bool,
     pub field: u8,

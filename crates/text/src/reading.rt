@@ -6,20 +6,20 @@ ghost use Rattle.text.specs.Reading.{Seeks, Begins, Meant, ReadsNumbers, Found, 
 use poly::limits::FIELD_MOST;
 
 // Where a line's value stands: from `from` up to the line feed at `to`.
-#[derive(Drop)]
+#[derive(Clone, Copy)]
 pub struct Standing {
     pub ok: bool,
     pub from: usize,
     pub to: usize,
 }
 
-#[derive(Drop)]
+#[derive(Clone, Copy)]
 pub struct Value {
     pub ok: bool,
     pub value: u8,
 }
 
-#[derive(Drop)]
+#[derive(Clone, Copy)]
 pub struct Values {
     pub ok: bool,
     pub count: u8,
@@ -27,14 +27,14 @@ pub struct Values {
 }
 
 // What a line says, and the place after it.
-#[derive(Drop)]
+#[derive(Clone, Copy)]
 pub struct Line {
     pub ok: bool,
     pub value: u8,
     pub next: usize,
 }
 
-#[derive(Drop)]
+#[derive(Clone, Copy)]
 pub struct ListLine {
     pub ok: bool,
     pub count: u8,
