@@ -5,7 +5,7 @@ use mathlib.Core.List.{[], ◌∷◌}
 use Prim.Native.Nat.{ℕ, zero, suc, ◌-◌, ◌≤◌, min}
 use native.Mathlib.Omega.{arith}
 use Rattle.field.specs.Field.{Ring, RingLaws, pow}
-use Rattle.field.proofs.RingLaws.{add-zero, mul-one, mul-zero, one-mul, neg-mul, neg-zero}
+use Rattle.field.proofs.RingLaws.{add-zero, mul-left_comm, mul-one, mul-zero, one-mul, neg-mul, neg-zero}
 use Rattle.field.proofs.RingTactic.{ring}
 use Rattle.field.proofs.Sums.{pow-zero, pow-suc}
 use Rattle.poly.specs.Polynomials.{Seq, zero_s, neg_s, mul_s, Series, cons_s, const_s, x_s, lin}
@@ -92,7 +92,7 @@ module _ {R : Ring} (L : RingLaws R) where
     low_row-power n zero = rw (low_row-zero R e h n, pow-zero C (lin S h)) (mul-one (series (series L)) _)
     low_row-power n (suc q) =
         rw (low_row-suc R e h n q, ← low_row-power n q, pow-suc C (lin S h) q)
-        (ring (series (series L)) (const_s S (pow S e n) ∷ lin S h ∷ pow C (lin S h) q ∷ []) (search readings depth 25) tt)
+        (mul-left_comm (series (series L)) (const_s S (pow S e n)) (lin S h) (pow C (lin S h) q))
 
     module _ (m i : ℕ) where
       pub start_row-low : i ≤ m → start_row R m e h i ≡ low_row R e h (m - i) i
@@ -110,5 +110,7 @@ module _ {R : Ring} (L : RingLaws R) where
           let b : suc i - m ≡ suc (i - m) = omega arith in
           let c : m - suc i ≡ m - i = omega arith in
           rw (a, b, c, pow-suc C (x_s S) (i - m), ← mul-x (series L) (start_row R m e h i))
-          (ring (series (series L)) (const_s S (pow S e (m - i)) ∷ pow C (lin S h) (min i m) ∷ x_s S ∷ pow C (x_s S) (i - m) ∷ [])
-          (search readings depth 25) tt)
+          (moved (const_s S (pow S e (m - i))) (pow C (lin S h) (min i m)) (x_s S) (pow C (x_s S) (i - m)))
+        where
+          moved : (a b c d : Curve R) → a ⊗ b ⊗ (c ⊗ d) ≡ c ⊗ (a ⊗ b ⊗ d)
+          moved a b c d = ring (series (series L)) (a ∷ b ∷ c ∷ d ∷ []) (search readings depth 25) tt

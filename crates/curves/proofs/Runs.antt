@@ -85,7 +85,7 @@ module _ {F : Field} (Φ : FieldLaws F) {u W l : ℕ} {b : ℕ → ℕ} where
         good = x.good;
         spent = spent-map (λ e. omega arith) x.spent;
       }
-  run_serves g t (turn q more) = let x = turn_serves Φ g t in serves-after x (run_serves x.good q more)
+  run_serves {r = r} g t (turn {r = r'} q more) = let x = turn_serves Φ g t in serves-after x (run_serves {r = r'} x.good q more)
 
 module _ {F : Field} (Φ : FieldLaws F) {u W l : ℕ} {b : ℕ → ℕ} {start : ℕ → Curve F.ring}
     (fresh : (i : ℕ) → i ≤ l → Fresh F.ring u W (b i) i (start i)) where

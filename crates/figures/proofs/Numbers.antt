@@ -22,9 +22,9 @@ use Rattle.figures.specs.Figures.{zero_to15, EncodeGives, Refused}
 use Rattle.figures.proofs.Computed.{seven}
 
 -- a line that does not apply, and what the rest of the table gives
-infixr 20 _⊳_
-pub _⊳_ : {Applies Given Rest : Type 0} → (Applies → ⊥) → Rest → (Applies × Given) ⊎ ((Applies → ⊥) × Rest)
-_⊳_ not rest = inr (not, rest)
+infixr 20 ◌⊳◌
+pub ◌⊳◌ : {Applies Given Rest : Type 0} → (Applies → ⊥) → Rest → (Applies × Given) ⊎ ((Applies → ⊥) × Rest)
+◌⊳◌ not rest = inr (not, rest)
 
 module _ {p : ℕ} {points word : List ℕ} {k m l : ℕ} {lent : List ℕ} (a : Accepted p points word k m l lent) where
   good-heights : BadHeights m l → ⊥

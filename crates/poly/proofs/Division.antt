@@ -58,7 +58,7 @@ module _ {R : Ring} (L : RingLaws R) where
       (divide a N (tail R f) (below-tail L h) ∙ rw (lin-is L a)))
     where
       finish : (c x t d e q : Seq R) → t ≡ e ⊞ (x ⊞ ⊟ d) ⊠ q → c ⊞ x ⊠ t ≡ c ⊞ d ⊠ e ⊞ (x ⊞ ⊟ d) ⊠ (e ⊞ x ⊠ q)
-      finish c x t d e q p = rw p (ring (series L) (c ∷ x ∷ d ∷ e ∷ q ∷ []) (search readings depth 25) tt)
+      finish c x t d e q p = rw p (ring (series L) (c ∷ x ∷ d ∷ e ∷ q ∷ []) (search readings depth 25 fits 20000) tt)
 
   pub divide-root : (a : Car) (N : ℕ) (f : Seq R) → Below R N f → value R a N f ≡ 𝟘 → f ≡ lin R a ⊠ quot R a N f
   divide-root a N f h z = divide a N f h ∙ rw (z, const-zero L) (zero-add (series L) _)
