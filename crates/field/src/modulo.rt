@@ -23,7 +23,7 @@ pub fn reduce(z: u16, p: u8, g: u16) -> u8
 // Takes c times the `len` symbols at `from` off those at `to`.
 pub fn subtract(rows: &mut [u8], to: usize, from: usize, len: usize, c: u8, p: u8)
     requires subtracts { Subtracts p c to from len rows.old }
-    requires p_nonzero { p ≢ 16 }
+    requires not_sixteen { p ≢ 16 }
     ensures { rows.new ≡ subtracted p c to from len rows.old }
 {
     let g = reciprocal(p);
@@ -37,7 +37,7 @@ pub fn subtract(rows: &mut [u8], to: usize, from: usize, len: usize, c: u8, p: u
 // Multiplies the `len` symbols at `at` by c.
 pub fn scale(rows: &mut [u8], at: usize, len: usize, c: u8, p: u8)
     requires scales { Scales p c at len rows.old }
-    requires p_nonzero { p ≢ 16 }
+    requires not_sixteen { p ≢ 16 }
     ensures { rows.new ≡ scaled p c at len rows.old }
 {
     let g = reciprocal(p);
@@ -58,7 +58,7 @@ fn wide_product(a: u8, b: u8) -> u32
 // bytes stay within 32 bits.
 pub fn convolve(f: &[u8], xs: &[u8], top: usize, count: usize, p: u8) -> u8
     requires convolves { Convolves p top count f.now xs.now }
-    requires p_nonzero { p ≢ 16 }
+    requires not_sixteen { p ≢ 16 }
     ensures { result ≡ (convolution p top count f.now xs.now).byte }
 {
     let mut sum = 0u32;

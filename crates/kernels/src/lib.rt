@@ -34,7 +34,7 @@ pub extern "C" fn kernel_remainder(
     p: u8,
 )
     requires subtracts { Subtracts p c to from len rows.old }
-    requires p_nonzero { p ≢ 16 }
+    requires not_sixteen { p ≢ 16 }
     ensures { rows.new ≡ subtracted p c to from len rows.old }
 {
     let m = (p - c) as u16;

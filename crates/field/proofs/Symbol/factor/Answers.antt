@@ -6,8 +6,7 @@ use Rattle.field.specs.Symbols.{symbol, symbols}
 use Rattle.field.specs.Operations.{Operand, pow_byte}
 use Rattle.field.proofs.Sums.{pow-zero, pow-one}
 use Rattle.field.proofs.SymbolLaws.{symbol-own, symbols-field}
-use Rattle.field.proofs.Symbol.factor.Statement.{statement}
-use Rattle.field.proofs.Symbol.factor.Tie as tie
+use Rattle.field.proofs.Symbol.factor.Goals as goal
 
 module _ {p a : ℕ} (o : Operand p a) where
   power-zero : 1 ≡ pow_byte p a 0
@@ -18,14 +17,10 @@ module _ {p a : ℕ} (o : Operand p a) where
   unfolding pow_byte
   power-one = rw (pow_byte, pow-one (symbols-field p o.size).ring (symbol p a)) (sym (symbol-own p o.below))
 
-returns : tie.Need-returns
-returns c = rw c.if1.true (power-zero c.before.requires)
+pub returns-then-exponent-eq0 : goal.returns-then-exponent-eq0
+returns-then-exponent-eq0 c = rw c.if-exponent-eq0.true (power-zero c.requires)
 
-returns-2 : tie.Need-returns-2
-returns-2 c =
-    let s = c.before in
-    let odd : s.args.exponent % 2 ≡ 1 = omega (arith, c.if1.false) in
-    rw odd (power-one s.requires)
-
-pub factor_spec : {M : Type 1} → statement M
-factor_spec = tie.close (tie.spec returns returns-2)
+pub returns : goal.returns
+returns c =
+    let odd : c.args.exponent % 2 ≡ 1 = omega (arith, c.if-exponent-eq0.false) in
+    rw odd (power-one c.requires)

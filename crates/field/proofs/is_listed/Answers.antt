@@ -8,8 +8,7 @@ use lib.Dec.{eqb}
 use types.Run.{OneOf}
 use borrow.Author.Tests.{eq-eqb, ne_eqb}
 use Rattle.field.specs.Symbols.{or, among, primes, listed}
-use Rattle.field.proofs.is_listed.Statement.{statement}
-use Rattle.field.proofs.is_listed.Tie as tie
+use Rattle.field.proofs.is_listed.Goals as goal
 
 or-true : (a b : Bool) → b ≡ true → or a b ≡ true
 or-true true b e = refl
@@ -25,20 +24,17 @@ among-false [] x n = refl
 among-false (k ∷ []) x n = rw (ne_eqb x k n)
 among-false (k ∷ (j ∷ ks)) x n = rw (ne_eqb x k (λ e. n (inl e))) (among-false (j ∷ ks) x (λ o. n (inr o)))
 
-returns : tie.Need-returns
+unlisted : (x : ℕ) → (OneOf primes x → ⊥) → (x ≡ 16 → ⊥) → false ≡ listed x
 unfolding listed
-returns c = let x = c.before.args.p in sym (or-true (eqb x 16) _ (among-true primes x c.match.keys1))
+unlisted x n other = rw (ne_eqb x 16 other) (sym (among-false primes x n))
 
-returns-2 : tie.Need-returns-2
+pub returns-in-3 : goal.returns-in-3
 unfolding listed
-returns-2 c = rw c.match.keys2
+returns-in-3 c = sym (or-true (eqb c.args.p 16) _ (among-true primes c.args.p c.in-3.is))
 
-returns-3 : tie.Need-returns-3
+pub returns-in-16 : goal.returns-in-16
 unfolding listed
-returns-3 c =
-    let x = c.before.args.p in
-    let other = c.match.rest in
-    rw (ne_eqb x 16 other.1) (sym (among-false primes x other.0.1))
+returns-in-16 c = rw c.in-16.is
 
-pub is-listed_spec : {M : Type 1} → statement M
-is-listed_spec = tie.close (tie.spec returns returns-2 returns-3)
+pub returns-in_default : goal.returns-in_default
+returns-in_default c = let h = c.in_default in search (unlisted c.args.p)

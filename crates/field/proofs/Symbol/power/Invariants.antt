@@ -1,0 +1,27 @@
+use mathlib.Core.Path.{◌≡◌, sym, ap, ◌∙◌}
+use Prim.Native.Nat.{ℕ, zero, suc, ◌-◌, ◌/◌, ◌%◌, ◌^◌, ◌<◌}
+use native.Mathlib.Nat.{pow-suc}
+use native.Mathlib.Omega.{arith}
+use borrow.Author.Rules.{rules}
+use Rattle.field.specs.Field.{RingLaws, pow}
+use Rattle.field.specs.Symbols.{Element, symbol, symbols, product_of}
+use Rattle.field.specs.Operations.{Listed, times_bytes, pow_byte}
+use Rattle.field.proofs.RingLaws.{mul_assoc, mul-one, one-mul}
+use Rattle.field.proofs.Sums.{pow-zero, pow_halved}
+use Rattle.field.proofs.SymbolLaws.{byte-is, symbols-field}
+use Rattle.field.proofs.OperationLaws.{symbol-times_bytes, symbol-pow_byte, times_bytes-below, pow_byte-below}
+use Rattle.field.proofs.Symbol.power.Given as goal
+
+-- r times b to the power n
+abbrev pub times_power : (p r b n : ℕ) → Element p
+times_power p r b n = product_of p (symbol p r) (pow (symbols p).ring (symbol p b) n)
+
+abbrev pub invariant-loop-steps : goal.invariant-loop-steps
+invariant-loop-steps l =
+    (l.result.value < l.p)
+    × (l.base.value < l.p)
+    × (l.left < 2 ^ l.steps)
+    × (times_power l.p l.result.value l.base.value l.left ≡ pow (symbols l.p).ring (symbol l.p l.initial.base.value) l.exponent)
+
+abbrev pub decreases-loop-steps : goal.decreases-loop-steps
+decreases-loop-steps l = l.steps
