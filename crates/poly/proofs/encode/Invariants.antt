@@ -1,0 +1,13 @@
+use mathlib.Core.Path.{refl}
+use Prim.Native.Nat.{◌≤◌, ◌-◌}
+use native.Mathlib.Omega.{arith}
+use lib.ListN.{length}
+use borrow.Author.Rules.{rules}
+use Rattle.poly.proofs.Encoding.{Accepted, accepted, Written, written-more}
+use Rattle.poly.proofs.encode.Given as goal
+
+abbrev pub invariant-loop-s : goal.invariant-loop-s
+invariant-loop-s l = (l.s ≤ length l.points) × Accepted l.p l.points l.message l.initial.word × Written l.p l.points l.message l.initial.word l.s l.word
+
+abbrev pub decreases-loop-s : goal.decreases-loop-s
+decreases-loop-s l = length l.points - l.s

@@ -1,0 +1,14 @@
+use mathlib.Core.Path.{◌≡◌, refl, sym, ◌∙◌}
+use Prim.Native.Nat.{◌≤◌, ◌<◌, ◌-◌}
+use lib.ListN.{length}
+use borrow.Author.Rules.{rules}
+use Rattle.field.specs.Symbols.{symbols_of}
+use Rattle.field.proofs.SymbolLaws.{byte-below}
+use Rattle.poly.proofs.BufferLaws.{horner, horner-none, horner-more, horner-all}
+use Rattle.poly.proofs.value_at.Given as goal
+
+abbrev pub invariant-loop-i : goal.invariant-loop-i
+invariant-loop-i l = (l.i ≤ length l.coefficients) × (l.sum.value ≡ (horner l.p l.a (length l.coefficients) (symbols_of l.p l.coefficients) l.i).byte)
+
+abbrev pub decreases-loop-i : goal.decreases-loop-i
+decreases-loop-i l = l.i
