@@ -1,0 +1,13 @@
+use mathlib.Core.Path.{◌≡◌, refl, sym}
+use Prim.Native.Nat.{◌-◌, ◌≤◌}
+use lib.ListN.{length, length-set}
+use borrow.Author.Rules.{rules}
+use Rattle.rows.specs.Filling.{copied}
+use Rattle.rows.proofs.fill.Copies.{copied-none, copied-more}
+use Rattle.rows.proofs.fill.copy.Given as goal
+
+abbrev pub invariant-loop-i : goal.invariant-loop-i
+invariant-loop-i l = (l.i ≤ l.len) × (length l.rows ≡ length l.initial.rows) × (l.rows ≡ copied l.from l.to l.i l.initial.rows)
+
+abbrev pub decreases-loop-i : goal.decreases-loop-i
+decreases-loop-i l = l.len - l.i

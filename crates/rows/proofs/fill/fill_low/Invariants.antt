@@ -1,0 +1,13 @@
+use mathlib.Core.Path.{◌≡◌, ◌∙◌}
+use Prim.Native.Nat.{◌-◌, ◌*◌, ◌≤◌}
+use native.Mathlib.Omega.{arith}
+use borrow.Author.Rules.{rules}
+use Rattle.rows.specs.Bytes.{slot as slot_of, curve_bytes}
+use Rattle.rows.proofs.fill.LowRows.{slot-fits, LowFilled, row-inside, one_factors, low-one, low-begins, low_factors, low-more, low-all}
+use Rattle.rows.proofs.fill.fill_low.Given as goal
+
+abbrev pub invariant-loop-q : goal.invariant-loop-q
+invariant-loop-q l = (l.slot ≡ slot_of l.shape) × (l.base ≡ l.i * curve_bytes l.shape) × (l.q ≤ l.i) × LowFilled l.shape l.i (l.m - l.i) l.q l.h l.e l.initial.rows l.rows
+
+abbrev pub decreases-loop-q : goal.decreases-loop-q
+decreases-loop-q l = l.i - l.q

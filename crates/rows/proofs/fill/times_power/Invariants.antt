@@ -1,0 +1,12 @@
+use mathlib.Core.Path.{◌≡◌}
+use Prim.Native.Nat.{◌-◌, ◌≤◌}
+use borrow.Author.Rules.{rules}
+use Rattle.rows.specs.Filling.{Power}
+use Rattle.rows.proofs.fill.Slots.{power-none, power-more, power_factors}
+use Rattle.rows.proofs.fill.times_power.Given as goal
+
+abbrev pub invariant-loop-i : goal.invariant-loop-i
+invariant-loop-i l = (l.i ≤ l.count) × Power l.p l.f l.i l.at l.len l.initial.rows l.rows
+
+abbrev pub decreases-loop-i : goal.decreases-loop-i
+decreases-loop-i l = l.count - l.i

@@ -1,0 +1,11 @@
+use mathlib.Core.Path.{◌≡◌}
+use Prim.Native.Nat.{◌≤◌}
+use borrow.Author.Rules.{rules}
+use Rattle.rows.proofs.fill.Slots.{Raising, raising-none, raising_factors, raising-more, raising-all}
+use Rattle.rows.proofs.fill.times_y_less_h.Given as goal
+
+abbrev pub invariant-loop-j : goal.invariant-loop-j
+invariant-loop-j l = (l.j ≤ l.slots) × Raising l.p l.h l.base l.slot l.slots l.j l.initial.rows l.rows
+
+abbrev pub decreases-loop-j : goal.decreases-loop-j
+decreases-loop-j l = l.j

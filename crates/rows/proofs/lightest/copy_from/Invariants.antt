@@ -1,0 +1,15 @@
+use mathlib.Core.Path.{◌≡◌, refl, sym}
+use Prim.Native.Nat.{◌-◌, ◌≤◌}
+use native.Mathlib.Numerals.{add-one}
+use native.Mathlib.Omega.{arith}
+use lib.ListN.{length, length-set}
+use borrow.Author.Rules.{rules}
+use Rattle.rows.specs.Work.{copied_from}
+use Rattle.rows.proofs.lightest.HandedCurve.{copied-from-none, copied-from-more}
+use Rattle.rows.proofs.lightest.copy_from.Given as goal
+
+abbrev pub invariant-loop-i : goal.invariant-loop-i
+invariant-loop-i l = (l.i ≤ l.len) × (length l.dst ≡ length l.initial.dst) × (l.dst ≡ copied_from l.src l.at l.i l.initial.dst)
+
+abbrev pub decreases-loop-i : goal.decreases-loop-i
+decreases-loop-i l = l.len - l.i

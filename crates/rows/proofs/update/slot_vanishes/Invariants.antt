@@ -1,0 +1,19 @@
+use mathlib.Core.Path.{◌≡◌, sym, ◌∙◌}
+use Prim.Native.Nat.{ℕ, suc, ◌-◌, ◌≤◌, ◌<◌}
+use native.Mathlib.Omega.{arith}
+use borrow.Author.Count.{below_more}
+use borrow.Author.Rules.{rules}
+use Rattle.field.specs.Operations.{minus_bytes, times_bytes}
+use Rattle.field.proofs.OperationLaws.{times_bytes-below}
+use Rattle.poly.proofs.TableLaws.{decided-true, decided-false}
+use Rattle.rows.specs.Work.{delayed_byte}
+use Rattle.rows.proofs.update.Vanishing.{delayed-below}
+use Rattle.rows.proofs.update.slot_vanishes.Given as goal
+
+abbrev pub invariant-loop-e : goal.invariant-loop-e
+invariant-loop-e l =
+    (l.e ≤ suc l.shape.width)
+    × ((i : ℕ) → i < l.e → minus_bytes l.shape.p (delayed_byte l.rows l.a l.up i) (times_bytes l.shape.p l.c.value (delayed_byte l.rows l.b l.down i)) ≡ 0)
+
+abbrev pub decreases-loop-e : goal.decreases-loop-e
+decreases-loop-e l = suc l.shape.width - l.e

@@ -1,0 +1,29 @@
+use mathlib.Core.Path.{◌≡◌, ap₂}
+use Prim.Native.Nat.{ℕ, suc, ◌+◌, ◌-◌, ◌*◌, ◌≤◌, ◌<◌}
+use native.Mathlib.Omega.{arith}
+use borrow.Author.Count.{below_more}
+use borrow.Author.Rules.{rules}
+use borrow.Author.Tests.{not-true, not-false}
+use Rattle.field.specs.Symbols.{symbol, symbols}
+use Rattle.poly.specs.Limits.{rows_most}
+use Rattle.poly.specs.Buffers.{Decided}
+use Rattle.poly.proofs.TableLaws.{decided-true, decided-false}
+use Rattle.curves.specs.Turns.{cross}
+use Rattle.rows.specs.Bytes.{slot as slot_of, curve_bytes, rows_of}
+use Rattle.rows.specs.Work.{leads_ratio}
+use Rattle.rows.specs.declared.Shape.{Shape}
+use Rattle.rows.proofs.Placing.{slot-end, row-end, rows-small}
+use Rattle.rows.proofs.update.CrossedRows.{ratio-below}
+use Rattle.rows.proofs.update.Vanishing.{Vanishing, vanishing-is, slot-zero, zero-slot, row-zero, slot-region}
+use Rattle.rows.proofs.update.vanishes.Given as goal
+
+abbrev pub invariant-loop-j : goal.invariant-loop-j
+invariant-loop-j l =
+    (l.j ≤ suc l.shape.l)
+    × ((t : ℕ) → t < l.j → (e : ℕ) → e ≤ l.shape.width
+    → cross (symbols l.shape.p).ring (l.v - l.w) (rows_of l.shape l.rows l.r)
+    (leads_ratio l.shape l.rows l.r l.w l.s l.v) (l.w - l.v) (rows_of l.shape l.rows l.s) t e
+    ≡ symbol l.shape.p 0)
+
+abbrev pub decreases-loop-j : goal.decreases-loop-j
+decreases-loop-j l = suc l.shape.l - l.j
