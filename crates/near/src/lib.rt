@@ -40,7 +40,7 @@ fn interpolate(
     curve: &mut [u8],
 ) -> Weighed
     requires first { First (start_table p points.now word.now k m l room.old) 0 }
-    requires l_in_bounds { curve_bytes (shape p (length points.now) k m l) ≤ length curve.old }
+    requires curve_room { curve_bytes (shape p (length points.now) k m l) ≤ length curve.old }
     ensures { FoundCurve p points.now word.now k m l room.old room.new curve.old
         curve.new result }
 {

@@ -269,7 +269,7 @@ pub fn run(
     t: u8,
     messages: &mut [u8],
 ) -> u8
-    requires m_le_l { (m ≤ l) × (length points.now ≤ p) }
+    requires bounds { (m ≤ l) × (length points.now ≤ p) }
     requires runs { Runs (plan_of p (length points.now) k m l t) points.now word.now curve.old messages.old }
     ensures { Ran k (found_on (plan_of p (length points.now) k m l t) points.now word.now
         curve.old) messages.old messages.new result }

@@ -1,0 +1,6 @@
+-- `plan_of` meets its contract. Assumes nothing.
+use borrow.Author.Rules.{rules}
+use Rattle.near.proofs.search.plan_of.Goals as goal
+
+pub returns : goal.returns
+returns c = rw c.of-shape.ensures

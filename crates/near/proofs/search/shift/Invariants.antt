@@ -1,0 +1,10 @@
+use mathlib.Core.Path.{◌≡◌}
+use borrow.Author.Rules.{rules}
+use Rattle.near.proofs.search.Shifting.{Shifting, shifting-none, shifting-more, shifted}
+use Rattle.near.proofs.search.shift.Given as goal
+
+abbrev pub invariant-loop-j : goal.invariant-loop-j
+invariant-loop-j l = Shifting l.shape l.i l.c.value l.j l.initial.curve l.curve
+
+abbrev pub decreases-loop-j : goal.decreases-loop-j
+decreases-loop-j l = l.j

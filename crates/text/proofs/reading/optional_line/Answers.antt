@@ -1,0 +1,27 @@
+-- `text::reading::optional_line` meets its contract: the line that stands at `at`, and the number that its value is or means when empty.
+use native.Mathlib.Omega.{arith}
+use borrow.Author.Tests.{not-true, not-false}
+use borrow.Author.Rules.{rules}
+use Rattle.text.specs.Reading.{Stands}
+use Rattle.text.proofs.Grammar.{optional_plain}
+use Rattle.text.proofs.StandingLines.{takes-none, takes}
+use Rattle.text.proofs.reading.optional_line.Goals as goal
+
+pub returns-then-not-span : goal.returns-then-not-span
+returns-then-not-span c = takes-none 0 0 (c.line_at_lem.ensures.fails c.if-not-span.true)
+
+pub slice_bounds-optional-count : goal.slice_bounds-optional-count
+slice_bounds-optional-count c =
+    let stands : let a = c.args in Stands a.key.now a.text.now a.at c.line_at_lem.result.from c.line_at_lem.result.to = c.line_at_lem.ensures.holds c.if-not-span.false in
+    let s = stands in omega arith
+
+pub overflow_add-next : goal.overflow_add-next
+overflow_add-next c =
+    let stands : let a = c.args in Stands a.key.now a.text.now a.at c.line_at_lem.result.from c.line_at_lem.result.to = c.line_at_lem.ensures.holds c.if-not-span.false in
+    let s = stands in omega arith
+
+pub returns : goal.returns
+returns c =
+    let stands : let a = c.args in Stands a.key.now a.text.now a.at c.line_at_lem.result.from c.line_at_lem.result.to = c.line_at_lem.ensures.holds c.if-not-span.false in
+    takes (optional_plain c.args.other) stands
+    c.optional-found.ensures

@@ -1,0 +1,7 @@
+-- `text::writing::put_byte` meets its contract.
+use borrow.Author.Rules.{rules}
+use Rattle.text.proofs.Puts.{put-one}
+use Rattle.text.proofs.writing.put_byte.Goals as goal
+
+pub returns : goal.returns
+returns c = put-one c.args.out.now c.args.at c.args.b c.requires
