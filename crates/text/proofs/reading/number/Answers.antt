@@ -15,6 +15,8 @@ use lib.ListN.{length, get_or}
 use Rattle.text.specs.Requests.{number_of, Number}
 use Rattle.text.specs.Reading.{Meant}
 use Rattle.text.proofs.reading.number.Goals as goal
+use Rattle.text.proofs.reading.number.Goals.{then-text-lt1-via-then-text-lt1, then-text-lt1-via-else-text-lt1+then-text-gt3}
+use Rattle.text.proofs.reading.number.Goals.{then-b-lt48-via-then-b-lt48, then-b-lt48-via-else-b-lt48+then-b-gt57}
 
 -- a text that is no number
 none : {text : List ℕ} → ((n : ℕ) → Number text n → ⊥) → Meant {A = ℕ} false 0 (Number text)
@@ -25,7 +27,7 @@ low : (i value : ℕ) → i < 3 → value < 10 ^ i → value < 100
 low i value h k = omega (arith, pow-le-pow_right {n = 10} (omega arith) {i = i} {j = 2} (omega arith))
 
 pub returns-then-text-lt1 : goal.returns-then-text-lt1
-returns-then-text-lt1 c = none (λ n r. ⊎_elim (λ w. omega (arith, r.some)) (λ w. omega (arith, ltb-true, r.few)) c.if-text-lt1.branch)
+returns-then-text-lt1 c = none (λ n r. elim c.then-text-lt1.branch [ then-text-lt1-via-then-text-lt1 w ↦ omega (arith, r.some) | then-text-lt1-via-else-text-lt1+then-text-gt3 w ↦ omega (arith, r.few) ])
 
 pub loop-i-init : goal.loop-i-init
 unfolding number_of
@@ -34,7 +36,7 @@ loop-i-init c = (omega arith, omega arith, refl, λ k h. absurd (omega arith))
 pub returns-then-b-lt48 : goal.returns-then-b-lt48
 returns-then-b-lt48 c =
     none (λ n r. let d = r.are_digits c.loop-i.i c.loop-i-test.true in
-    ⊎_elim (λ w. omega arith) (λ w. omega (arith, ltb-true)) c.if-b-lt48.branch)
+    elim c.then-b-lt48.branch [ then-b-lt48-via-then-b-lt48 w ↦ omega arith | then-b-lt48-via-else-b-lt48+then-b-gt57 w ↦ omega arith ])
 
 pub overflow_mul-value : goal.overflow_mul-value
 overflow_mul-value c =

@@ -14,17 +14,17 @@ pub slice_bounds-number-count : goal.slice_bounds-number-count
 slice_bounds-number-count c = omega (arith, c.seek-to.ensures)
 
 pub returns-then-not-first : goal.returns-then-not-first
-returns-then-not-first c = no_item c.loop-count.invariant c.seek-to.ensures (c.number-first.ensures.fails c.if-not-first.true)
+returns-then-not-first c = no_item c.loop-count.invariant c.seek-to.ensures (c.number-first.ensures.fails (not-true _ c.if-not-first.true))
 
 pub returns-then-to-text : goal.returns-then-to-text
 returns-then-to-text c =
     last_item c.loop-count.invariant c.seek-to.ensures c.number-first.result.value c.loop-count-test.true (omega arith)
-    (c.number-first.ensures.holds c.if-not-first.false)
+    (c.number-first.ensures.holds (not-false _ c.if-not-first.false))
 
 pub loop-count-preserved : goal.loop-count-preserved
 loop-count-preserved c =
     more_items c.loop-count.invariant c.seek-to.ensures c.number-first.result.value c.loop-count-test.true (omega arith)
-    (c.number-first.ensures.holds c.if-not-first.false)
+    (c.number-first.ensures.holds (not-false _ c.if-not-first.false))
 
 pub returns : goal.returns
 returns c = too-many c.loop-count.invariant c.loop-count-test.false

@@ -1,0 +1,10 @@
+-- `pluck_start` meets its contract: the job's own contract, and its note in the lent bytes.
+use borrow.Author.Rules.{rules}
+use Rattle.boards.proofs.Calling.{start-short, start-done}
+use Rattle.boards.proofs.pluck_start.Goals as goal
+
+pub returns-then-note-lt-NOTE_BYTES : goal.returns-then-note-lt-NOTE_BYTES
+returns-then-note-lt-NOTE_BYTES c = start-short c.if-note-lt-NOTE_BYTES.true c.start.ensures
+
+pub returns : goal.returns
+returns c = start-done c.if-note-lt-NOTE_BYTES.false c.start-started.ensures c.write_note.ensures

@@ -1,0 +1,19 @@
+-- `pluck_turn` meets its contract: the job's own, on the note read from the lent bytes, and its answer in them.
+use borrow.Author.Rules.{rules}
+use Rattle.boards.proofs.Calling.{turn-unread, turn-short, turn-done}
+use Rattle.boards.proofs.pluck_turn.Goals as goal
+
+pub returns-then-note-lt-NOTE_BYTES : goal.returns-then-note-lt-NOTE_BYTES
+returns-then-note-lt-NOTE_BYTES c = turn-unread c.if-note-lt-NOTE_BYTES.true c.clear_lent.ensures
+
+pub returns-then-back-lt-BACK_BYTES : goal.returns-then-back-lt-BACK_BYTES
+returns-then-back-lt-BACK_BYTES c = turn-short c.if-note-lt-NOTE_BYTES.false c.if-back-lt-BACK_BYTES.true (rw c.read_note-given.ensures at c.turn.ensures)
+
+pub returns : goal.returns
+returns c =
+    turn-done
+    c.if-note-lt-NOTE_BYTES.false
+    c.if-back-lt-BACK_BYTES.false
+    (rw c.read_note-given.ensures at c.turn-turned.ensures)
+    c.write_note.ensures
+    c.write_back.ensures
