@@ -1,13 +1,31 @@
 // Reads a request, and prints the answer with the messages near the received word.
 #![tactic(auto)]
 
-use libc::{STDIN_FILENO, STDOUT_FILENO};
+ghost use Rattle.std.specs.Prelude.{◌≤◌, length, IfOk};
+
+use std::io;
+use std::io::Read;
+
+// Reads until the buffer is full or the input ends; how many bytes it put at the beginning of the buffer.
+fn read_full(input: &mut impl Read, buffer: &mut [u8]) -> io::Result<usize>
+    ensures { IfOk result (λ got. got ≤ length buffer.new) }
+{
+    let mut got = 0;
+    while got < buffer.len() {
+        let more = input.read(&mut buffer[got..])?;
+        if more == 0 {
+            break;
+        }
+        got += more;
+    }
+    Ok(got)
+}
 
 // A text that fills the buffer is longer than any that can be read.
-fn main() {
+fn main(rt: HostRuntime) -> io::Result<()> {
     let mut text = [0u8; 512];
-    let got = io::read_full(STDIN_FILENO, &mut text);
+    let got = read_full(&mut rt.stdin(), &mut text)?;
     let mut out = [0u8; 2048];
     let len = program::answer(&text[..got], &mut out);
-    io::write_all(STDOUT_FILENO, &out[..len]);
+    rt.write_all(&out[..len])
 }

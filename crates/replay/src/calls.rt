@@ -1,7 +1,8 @@
 // Stored calls: a header of 24 bytes, then the points and symbols of the call or its text. A number of two bytes has its low byte first.
-ghost use Rattle.std.specs.Prelude.{◌≡◌, ◌≤◌, length};
+ghost use Rattle.std.specs.Prelude.{◌≡◌, ◌≤◌, length, IfOk};
 
-use libc::STDIN_FILENO;
+use std::io;
+use std::io::{ErrorKind, Read};
 
 // Of the jobs on departures, write and show have the boat as p, the day as allowance and the minute as second length; read has its message as
 // symbols without points, and hear is as list.
@@ -27,13 +28,26 @@ fn both(low: u8, high: u8) -> u16 {
     low as u16 + 256 * (high as u16)
 }
 
+// Fills the buffer from standard input; false where the input ends before it is full.
+fn fills(rt: &impl Input, buffer: &mut [u8]) -> io::Result<bool> {
+    match rt.reader().read_exact(buffer) {
+        Ok(()) => Ok(true),
+        Err(error) => {
+            if error.kind() == ErrorKind::UnexpectedEof {
+                return Ok(false);
+            }
+            Err(error)
+        }
+    }
+}
+
 // The next header; one that is not whole has job 0.
-pub fn next() -> Call {
+pub fn next(rt: &impl Input) -> io::Result<Call> {
     let mut header = [0u8; 24];
-    if io::read_full(STDIN_FILENO, &mut header) < 24 {
+    if !fills(rt, &mut header)? {
         header[0] = 0;
     }
-    Call {
+    Ok(Call {
         job: header[0],
         p: header[1],
         n: header[2],
@@ -48,7 +62,7 @@ pub fn next() -> Call {
         lent: both(header[12], header[13]),
         second: both(header[14], header[15]),
         byte: header[16],
-    }
+    })
 }
 
 // Whether the header is that of a job.
@@ -60,42 +74,39 @@ pub fn is_one(call: Call) -> bool {
 }
 
 // The next n bytes, at the beginning of `out`.
-fn read(out: &mut [u8], n: usize)
+fn read(rt: &impl Input, out: &mut [u8], n: usize) -> io::Result<()>
     requires { n ≤ length out.old }
 {
-    io::read_full(STDIN_FILENO, &mut out[..n]);
+    fills(rt, &mut out[..n])?;
+    Ok(())
 }
 
-pub fn symbols(n: u8) -> [u8; 256]
-    ensures { 256 ≡ length result }
+pub fn symbols(rt: &impl Input, n: u8) -> io::Result<[u8; 256]>
+    ensures { IfOk result (λ bytes. 256 ≡ length bytes) }
 {
     let mut bytes = [0u8; 256];
-    read(&mut bytes, n as usize);
-    bytes
+    read(rt, &mut bytes, n as usize)?;
+    Ok(bytes)
 }
 
-pub fn text(n: u16) -> [u8; 65536]
-    ensures { 65536 ≡ length result }
+pub fn text(rt: &impl Input, n: u16) -> io::Result<[u8; 65536]>
+    ensures { IfOk result (λ bytes. 65536 ≡ length bytes) }
 {
-    let mut bytes = io::large_buffer();
-    read(&mut bytes, n as usize);
-    bytes
+    let mut bytes = [0u8; 65536];
+    read(rt, &mut bytes, n as usize)?;
+    Ok(bytes)
 }
 
 // No symbol is 195, so a byte that a job left alone shows.
 pub fn fill(lent: &mut [u8]) {
-    let mut i = 0;
-    while i < lent.len() {
-        lent[i] = 195;
-        i += 1;
-    }
+    lent.fill(195);
 }
 
 // A buffer to lend, as it is before the call.
 pub fn room() -> [u8; 65536]
     ensures { 65536 ≡ length result }
 {
-    let mut bytes = io::large_buffer();
+    let mut bytes = [0u8; 65536];
     fill(&mut bytes);
     bytes
 }

@@ -4,35 +4,51 @@ ghost use Rattle.rows.specs.Jobs.{HasTurned};
 use crate::printing;
 use departures::{Departure, Heard, ZERO_DEPARTURE};
 use rows::{Note, Turned};
+use std::io;
 
-pub fn encode(p: u8, points: &[u8], message: &[u8], word: &mut [u8]) {
+pub fn encode(
+    rt: &impl Print,
+    p: u8,
+    points: &[u8],
+    message: &[u8],
+    word: &mut [u8],
+) -> io::Result<()> {
     let number = poly::encode(p, points, message, word);
-    printing::byte(b"encode", number);
-    printing::bytes(b" word", word);
-    printing::end();
+    printing::byte(rt, "encode", number)?;
+    printing::bytes(rt, " word", word)?;
+    printing::end(rt)
 }
 
-pub fn start(p: u8, points: &[u8], word: &[u8], k: u8, m: u8, l: u8, rows: &mut [u8]) -> Note {
+pub fn start(
+    rt: &impl Print,
+    p: u8,
+    points: &[u8],
+    word: &[u8],
+    k: u8,
+    m: u8,
+    l: u8,
+    rows: &mut [u8],
+) -> io::Result<Note> {
     let started = rows::start(p, points, word, k, m, l, rows);
-    printing::byte(b"start", started.number);
-    printing::note(started.note);
-    printing::sum(b" rows", rows);
-    printing::end();
-    started.note
+    printing::byte(rt, "start", started.number)?;
+    printing::note(rt, started.note)?;
+    printing::sum(rt, " rows", rows)?;
+    printing::end(rt)?;
+    Ok(started.note)
 }
 
-fn print_turned(name: &[u8], turned: Turned, rows: &[u8]) {
-    printing::byte(name, turned.number);
-    printing::note(turned.note);
-    printing::number(b" updates", turned.updates as u64);
-    printing::sum(b" rows", rows);
-    printing::end();
+fn print_turned(rt: &impl Print, name: &str, turned: Turned, rows: &[u8]) -> io::Result<()> {
+    printing::byte(rt, name, turned.number)?;
+    printing::note(rt, turned.note)?;
+    printing::number(rt, " updates", turned.updates as u64)?;
+    printing::sum(rt, " rows", rows)?;
+    printing::end(rt)
 }
 
-pub fn turn(note: Note, rows: &mut [u8], allowance: u16) -> Note {
+pub fn turn(rt: &impl Print, note: Note, rows: &mut [u8], allowance: u16) -> io::Result<Note> {
     let turned = note.turn(rows, allowance);
-    print_turned(b"turn", turned, rows);
-    turned.note
+    print_turned(rt, "turn", turned, rows)?;
+    Ok(turned.note)
 }
 
 // The turn in place over a note of one's own, handed over and back by value.
@@ -47,22 +63,28 @@ fn own_turn(mut note: Note, rows: &mut [u8], allowance: u16) -> Turned
     }
 }
 
-pub fn turn_in_place(note: Note, rows: &mut [u8], allowance: u16) -> Note {
+pub fn turn_in_place(
+    rt: &impl Print,
+    note: Note,
+    rows: &mut [u8],
+    allowance: u16,
+) -> io::Result<Note> {
     let turned = own_turn(note, rows, allowance);
-    print_turned(b"turn_in_place", turned, rows);
-    turned.note
+    print_turned(rt, "turn_in_place", turned, rows)?;
+    Ok(turned.note)
 }
 
-pub fn finish(note: Note, rows: &[u8], curve: &mut [u8]) {
+pub fn finish(rt: &impl Print, note: Note, rows: &[u8], curve: &mut [u8]) -> io::Result<()> {
     let finished = rows::finish(note, rows, curve);
-    printing::byte(b"finish", finished.number);
-    printing::byte(b" weight", finished.weight);
-    printing::byte(b" height", finished.height);
-    printing::sum(b" curve", curve);
-    printing::end();
+    printing::byte(rt, "finish", finished.number)?;
+    printing::byte(rt, " weight", finished.weight)?;
+    printing::byte(rt, " height", finished.height)?;
+    printing::sum(rt, " curve", curve)?;
+    printing::end(rt)
 }
 
 pub fn list(
+    rt: &impl Print,
     p: u8,
     points: &[u8],
     word: &[u8],
@@ -72,63 +94,71 @@ pub fn list(
     t: u8,
     room: &mut [u8],
     messages: &mut [u8],
-) {
+) -> io::Result<()> {
     let near = near::list(p, points, word, k, m, l, t, room, messages);
-    printing::byte(b"list", near.number);
-    printing::byte(b" count", near.count);
-    printing::number(b" updates", near.updates as u64);
-    printing::byte(b" weight", near.weight);
-    printing::sum(b" room", room);
-    printing::bytes(b" messages", messages);
-    printing::end();
+    printing::byte(rt, "list", near.number)?;
+    printing::byte(rt, " count", near.count)?;
+    printing::number(rt, " updates", near.updates as u64)?;
+    printing::byte(rt, " weight", near.weight)?;
+    printing::sum(rt, " room", room)?;
+    printing::bytes(rt, " messages", messages)?;
+    printing::end(rt)
 }
 
 // What `listing` prints for the text.
-pub fn program(text: &[u8]) {
+pub fn program(rt: &impl Print, text: &[u8]) -> io::Result<()> {
     let mut out = [0u8; 2048];
     let len = program::answer(text, &mut out);
-    printing::number(b"program", len as u64);
-    printing::end();
-    printing::text(&out[..len]);
+    printing::number(rt, "program", len as u64)?;
+    printing::end(rt)?;
+    printing::text(rt, &out[..len])
 }
 
-pub fn write(departure: Departure, message: &mut [u8]) {
+pub fn write(rt: &impl Print, departure: Departure, message: &mut [u8]) -> io::Result<()> {
     let number = departures::write(departure, message);
-    printing::byte(b"write", number);
-    printing::bytes(b" message", message);
-    printing::end();
+    printing::byte(rt, "write", number)?;
+    printing::bytes(rt, " message", message)?;
+    printing::end(rt)
 }
 
-pub fn read(message: &[u8]) {
+pub fn read(rt: &impl Print, message: &[u8]) -> io::Result<()> {
     let reading = departures::read(message);
     let departure = reading.departure;
-    printing::byte(b"read", reading.number);
-    printing::departure(departure);
-    printing::end();
+    printing::byte(rt, "read", reading.number)?;
+    printing::departure(rt, departure)?;
+    printing::end(rt)
 }
 
-pub fn show(departure: Departure, text: &mut [u8]) {
+pub fn show(rt: &impl Print, departure: Departure, text: &mut [u8]) -> io::Result<()> {
     let number = departures::show(departure, text);
-    printing::byte(b"show", number);
-    printing::bytes(b" text", text);
-    printing::end();
+    printing::byte(rt, "show", number)?;
+    printing::bytes(rt, " text", text)?;
+    printing::end(rt)
 }
 
-fn print_heard(number: u8, count: u8, departure: Departure) {
-    printing::byte(b"hear", number);
-    printing::byte(b" count", count);
-    printing::departure(departure);
+fn print_heard(rt: &impl Print, number: u8, count: u8, departure: Departure) -> io::Result<()> {
+    printing::byte(rt, "hear", number)?;
+    printing::byte(rt, " count", count)?;
+    printing::departure(rt, departure)
 }
 
 // What was heard, in the numbers of the calls for C: zeros beside a refusal, and where there is not one departure.
-pub fn hear(points: &[u8], word: &[u8], m: u8, l: u8, t: u8, room: &mut [u8]) {
+pub fn hear(
+    rt: &impl Print,
+    points: &[u8],
+    word: &[u8],
+    m: u8,
+    l: u8,
+    t: u8,
+    room: &mut [u8],
+) -> io::Result<()> {
     let heard = departures::hear(points, word, m, l, t, room);
     match heard {
-        Heard::None => print_heard(0, 0, ZERO_DEPARTURE),
-        Heard::One(departure) => print_heard(0, 1, departure),
-        Heard::Several => print_heard(0, 2, ZERO_DEPARTURE),
-        Heard::Refused(number) => print_heard(number, 0, ZERO_DEPARTURE),
-    }
-    printing::sum(b" room", room);
-    printing::end();
+        Heard::None => print_heard(rt, 0, 0, ZERO_DEPARTURE),
+        Heard::One(departure) => print_heard(rt, 0, 1, departure),
+        Heard::Several => print_heard(rt, 0, 2, ZERO_DEPARTURE),
+        Heard::Refused(number) => print_heard(rt, number, 0, ZERO_DEPARTURE),
+    }?;
+    printing::sum(rt, " room", room)?;
+    printing::end(rt)
 }

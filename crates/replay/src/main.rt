@@ -8,60 +8,97 @@ ghost use Rattle.std.specs.Prelude.{◌≤◌, length};
 use calls::Call;
 use departures::Departure;
 use rows::Note;
+use std::io;
 
 mod calls; // calls.rt: the stored calls, read from standard input
 mod jobs; // jobs.rt: one call to the library, and its line
 mod printing; // printing.rt: what lines are made of
 
 // A buffer has 65,536 bytes, so that every length that a call can ask for is within it.
-fn encode(p: u8, n: u8, count: u8, lent: u16) {
-    let points = calls::symbols(n);
-    let message = calls::symbols(count);
+fn encode(rt: &(impl Input + Print), p: u8, n: u8, count: u8, lent: u16) -> io::Result<()> {
+    let points = calls::symbols(rt, n)?;
+    let message = calls::symbols(rt, count)?;
     let mut word = calls::room();
     let n = n as usize;
     let count = count as usize;
     let lent = lent as usize;
-    jobs::encode(p, &points[..n], &message[..count], &mut word[..lent]);
+    jobs::encode(rt, p, &points[..n], &message[..count], &mut word[..lent])
 }
 
-fn start(p: u8, n: u8, count: u8, k: u8, m: u8, l: u8, lent: u16, rows: &mut [u8]) -> Note
+fn start(
+    rt: &(impl Input + Print),
+    p: u8,
+    n: u8,
+    count: u8,
+    k: u8,
+    m: u8,
+    l: u8,
+    lent: u16,
+    rows: &mut [u8],
+) -> io::Result<Note>
     requires { 65536 ≤ length rows.old }
 {
-    let points = calls::symbols(n);
-    let word = calls::symbols(count);
+    let points = calls::symbols(rt, n)?;
+    let word = calls::symbols(rt, count)?;
     calls::fill(rows);
     let n = n as usize;
     let count = count as usize;
     let lent = lent as usize;
-    jobs::start(p, &points[..n], &word[..count], k, m, l, &mut rows[..lent])
+    jobs::start(
+        rt,
+        p,
+        &points[..n],
+        &word[..count],
+        k,
+        m,
+        l,
+        &mut rows[..lent],
+    )
 }
 
-fn turn(note: Note, allowance: u16, lent: u16, rows: &mut [u8]) -> Note
+fn turn(rt: &impl Print, note: Note, allowance: u16, lent: u16, rows: &mut [u8]) -> io::Result<Note>
     requires { 65536 ≤ length rows.old }
 {
     let lent = lent as usize;
-    jobs::turn(note, &mut rows[..lent], allowance)
+    jobs::turn(rt, note, &mut rows[..lent], allowance)
 }
 
-fn turn_in_place(note: Note, allowance: u16, lent: u16, rows: &mut [u8]) -> Note
+fn turn_in_place(
+    rt: &impl Print,
+    note: Note,
+    allowance: u16,
+    lent: u16,
+    rows: &mut [u8],
+) -> io::Result<Note>
     requires { 65536 ≤ length rows.old }
 {
     let lent = lent as usize;
-    jobs::turn_in_place(note, &mut rows[..lent], allowance)
+    jobs::turn_in_place(rt, note, &mut rows[..lent], allowance)
 }
 
-fn finish(note: Note, lent: u16, second: u16, rows: &[u8])
+fn finish(rt: &impl Print, note: Note, lent: u16, second: u16, rows: &[u8]) -> io::Result<()>
     requires { 65536 ≤ length rows.now }
 {
     let mut curve = calls::room();
     let lent = lent as usize;
     let second = second as usize;
-    jobs::finish(note, &rows[..lent], &mut curve[..second]);
+    jobs::finish(rt, note, &rows[..lent], &mut curve[..second])
 }
 
-fn list(p: u8, n: u8, count: u8, k: u8, m: u8, l: u8, t: u8, lent: u16, second: u16) {
-    let points = calls::symbols(n);
-    let word = calls::symbols(count);
+fn list(
+    rt: &(impl Input + Print),
+    p: u8,
+    n: u8,
+    count: u8,
+    k: u8,
+    m: u8,
+    l: u8,
+    t: u8,
+    lent: u16,
+    second: u16,
+) -> io::Result<()> {
+    let points = calls::symbols(rt, n)?;
+    let word = calls::symbols(rt, count)?;
     let mut room = calls::room();
     let mut messages = calls::room();
     let n = n as usize;
@@ -69,6 +106,7 @@ fn list(p: u8, n: u8, count: u8, k: u8, m: u8, l: u8, t: u8, lent: u16, second: 
     let lent = lent as usize;
     let second = second as usize;
     jobs::list(
+        rt,
         p,
         &points[..n],
         &word[..count],
@@ -78,13 +116,13 @@ fn list(p: u8, n: u8, count: u8, k: u8, m: u8, l: u8, t: u8, lent: u16, second: 
         t,
         &mut room[..lent],
         &mut messages[..second],
-    );
+    )
 }
 
-fn program(len: u16) {
-    let text = calls::text(len);
+fn program(rt: &(impl Input + Print), len: u16) -> io::Result<()> {
+    let text = calls::text(rt, len)?;
     let len = len as usize;
-    jobs::program(&text[..len]);
+    jobs::program(rt, &text[..len])
 }
 
 fn change(at: u16, byte: u8, rows: &mut [u8])
@@ -93,36 +131,44 @@ fn change(at: u16, byte: u8, rows: &mut [u8])
     rows[at as usize] = byte;
 }
 
-fn write(departure: Departure, lent: u16) {
+fn write(rt: &impl Print, departure: Departure, lent: u16) -> io::Result<()> {
     let mut message = calls::room();
     let lent = lent as usize;
-    jobs::write(departure, &mut message[..lent]);
+    jobs::write(rt, departure, &mut message[..lent])
 }
 
-fn read(count: u8) {
-    let message = calls::symbols(count);
+fn read(rt: &(impl Input + Print), count: u8) -> io::Result<()> {
+    let message = calls::symbols(rt, count)?;
     let count = count as usize;
-    jobs::read(&message[..count]);
+    jobs::read(rt, &message[..count])
 }
 
-fn show(departure: Departure, lent: u16) {
+fn show(rt: &impl Print, departure: Departure, lent: u16) -> io::Result<()> {
     let mut text = calls::room();
     let lent = lent as usize;
-    jobs::show(departure, &mut text[..lent]);
+    jobs::show(rt, departure, &mut text[..lent])
 }
 
-fn hear(n: u8, count: u8, m: u8, l: u8, t: u8, lent: u16) {
-    let points = calls::symbols(n);
-    let word = calls::symbols(count);
+fn hear(
+    rt: &(impl Input + Print),
+    n: u8,
+    count: u8,
+    m: u8,
+    l: u8,
+    t: u8,
+    lent: u16,
+) -> io::Result<()> {
+    let points = calls::symbols(rt, n)?;
+    let word = calls::symbols(rt, count)?;
     let mut room = calls::room();
     let n = n as usize;
     let count = count as usize;
     let lent = lent as usize;
-    jobs::hear(&points[..n], &word[..count], m, l, t, &mut room[..lent]);
+    jobs::hear(rt, &points[..n], &word[..count], m, l, t, &mut room[..lent])
 }
 
 // Makes one call on departures.
-fn replay_departure(call: Call) {
+fn replay_departure(rt: &(impl Input + Print), call: Call) -> io::Result<()> {
     let job = call.job;
     let departure = Departure {
         boat: call.p,
@@ -130,10 +176,10 @@ fn replay_departure(call: Call) {
         minute: call.second,
     };
     match job {
-        9 => write(departure, call.lent),
-        10 => read(call.count),
-        11 => show(departure, call.lent),
-        _ => hear(call.n, call.count, call.m, call.l, call.t, call.lent),
+        9 => write(rt, departure, call.lent),
+        10 => read(rt, call.count),
+        11 => show(rt, departure, call.lent),
+        _ => hear(rt, call.n, call.count, call.m, call.l, call.t, call.lent),
     }
 }
 
@@ -153,26 +199,27 @@ fn taken(call: Call, kept: Note) -> Note {
 }
 
 // Makes one call; hands back the note to keep.
-fn replay(call: Call, kept: Note, rows: &mut [u8]) -> Note
+fn replay(rt: &(impl Input + Print), call: Call, kept: Note, rows: &mut [u8]) -> io::Result<Note>
     requires { 65536 ≤ length rows.old }
 {
     let job = call.job;
     let note = taken(call, kept);
     if job == 2 {
         return start(
-            call.p, call.n, call.count, call.k, call.m, call.l, call.lent, rows,
+            rt, call.p, call.n, call.count, call.k, call.m, call.l, call.lent, rows,
         );
     }
     if job == 3 {
-        return turn(note, call.allowance, call.lent, rows);
+        return turn(rt, note, call.allowance, call.lent, rows);
     }
     if job == 4 {
-        return turn_in_place(note, call.allowance, call.lent, rows);
+        return turn_in_place(rt, note, call.allowance, call.lent, rows);
     }
     match job {
-        1 => encode(call.p, call.n, call.count, call.lent),
-        5 => finish(note, call.lent, call.second, rows),
+        1 => encode(rt, call.p, call.n, call.count, call.lent),
+        5 => finish(rt, note, call.lent, call.second, rows),
         6 => list(
+            rt,
             call.p,
             call.n,
             call.count,
@@ -183,15 +230,18 @@ fn replay(call: Call, kept: Note, rows: &mut [u8]) -> Note
             call.lent,
             call.second,
         ),
-        7 => program(call.lent),
-        8 => change(call.allowance, call.byte, rows),
-        _ => replay_departure(call),
-    }
-    kept
+        7 => program(rt, call.lent),
+        8 => {
+            change(call.allowance, call.byte, rows);
+            Ok(())
+        }
+        _ => replay_departure(rt, call),
+    }?;
+    Ok(kept)
 }
 
 // Nothing says that the input ends, so the loop counts down from a number that no input reaches.
-fn replay_all(rows: &mut [u8])
+fn replay_all(rt: &(impl Input + Print), rows: &mut [u8]) -> io::Result<()>
     requires { 65536 ≤ length rows.old }
 {
     let mut note = Note {
@@ -204,16 +254,17 @@ fn replay_all(rows: &mut [u8])
     };
     let mut left = u64::MAX;
     while 0 < left {
-        let call = calls::next();
+        let call = calls::next(rt)?;
         if !calls::is_one(call) {
-            return;
+            return Ok(());
         }
-        note = replay(call, note, rows);
+        note = replay(rt, call, note, rows)?;
         left -= 1;
     }
+    Ok(())
 }
 
-fn main() {
+fn main(rt: HostRuntime) -> io::Result<()> {
     let mut rows = calls::room();
-    replay_all(&mut rows);
+    replay_all(&rt, &mut rows)
 }

@@ -2,48 +2,50 @@
 ghost use Rattle.std.specs.Prelude.{◌<◌};
 
 use departures::Departure;
-use libc::STDOUT_FILENO;
 use rows::Note;
+use std::io;
 
 fn wide(x: u8) -> u64 {
     x as u64
 }
 
-pub fn text(bytes: &[u8]) {
-    io::write_all(STDOUT_FILENO, bytes);
+pub fn text(rt: &impl Print, bytes: &[u8]) -> io::Result<()> {
+    rt.write_all(bytes)
 }
 
-fn spaced(n: u64) {
-    text(b" ");
-    io::print_decimal(STDOUT_FILENO, n);
+fn spaced(rt: &impl Print, n: u64) -> io::Result<()> {
+    print!(rt; " {n}")
 }
 
-pub fn number(name: &[u8], n: u64) {
-    text(name);
-    spaced(n);
+pub fn number(rt: &impl Print, name: &str, n: u64) -> io::Result<()> {
+    rt.print(name)?;
+    spaced(rt, n)
 }
 
-pub fn byte(name: &[u8], b: u8) {
-    number(name, wide(b));
+pub fn byte(rt: &impl Print, name: &str, b: u8) -> io::Result<()> {
+    number(rt, name, wide(b))
 }
 
-pub fn bytes(name: &[u8], lent: &[u8]) {
-    text(name);
-    let mut i = 0;
-    while i < lent.len() {
-        spaced(wide(lent[i]));
-        i += 1;
+pub fn bytes(rt: &impl Print, name: &str, lent: &[u8]) -> io::Result<()> {
+    rt.print(name)?;
+    for b in lent {
+        spaced(rt, wide(*b))?;
     }
+    Ok(())
 }
 
-pub fn note(note: Note) {
-    bytes(b" note", &[note.p, note.n, note.k, note.m, note.l, note.r]);
+pub fn note(rt: &impl Print, note: Note) -> io::Result<()> {
+    bytes(
+        rt,
+        " note",
+        &[note.p, note.n, note.k, note.m, note.l, note.r],
+    )
 }
 
-pub fn departure(departure: Departure) {
-    byte(b" departure", departure.boat);
-    spaced(departure.day as u64);
-    spaced(departure.minute as u64);
+pub fn departure(rt: &impl Print, departure: Departure) -> io::Result<()> {
+    byte(rt, " departure", departure.boat)?;
+    spaced(rt, departure.day as u64)?;
+    spaced(rt, departure.minute as u64)
 }
 
 fn step(s: u64, b: u8) -> u64
@@ -54,16 +56,14 @@ fn step(s: u64, b: u8) -> u64
 }
 
 // A number in which every byte lent counts, where there are too many to print.
-pub fn sum(name: &[u8], lent: &[u8]) {
+pub fn sum(rt: &impl Print, name: &str, lent: &[u8]) -> io::Result<()> {
     let mut s = 0;
-    let mut i = 0;
-    while i < lent.len() {
-        s = step(s, lent[i]);
-        i += 1;
+    for b in lent {
+        s = step(s, *b);
     }
-    number(name, s);
+    number(rt, name, s)
 }
 
-pub fn end() {
-    text(b"\n");
+pub fn end(rt: &impl Print) -> io::Result<()> {
+    rt.println("")
 }

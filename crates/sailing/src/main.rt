@@ -8,8 +8,8 @@ ghost use Rattle.sailing.specs.Voyage.{AllPoints, Disturbs, Sailed, disturbed_mo
 
 use departures::limits::{DEPARTURE_FIELD, DEPARTURE_SYMBOLS, TIME_BYTES};
 use departures::{Departure, Heard};
-use libc::STDOUT_FILENO;
 use poly::limits::WORKING_ROOM;
+use std::io;
 
 // As many points as the field has symbols.
 const POINTS: usize = DEPARTURE_FIELD as usize;
@@ -29,10 +29,8 @@ fn all_points() -> [u8; POINTS]
     ensures { AllPoints result }
 {
     let mut points = [0u8; POINTS];
-    let mut i = 0;
-    while i < POINTS {
+    for i in 0..POINTS {
         points[i] = i as u8;
-        i += 1;
     }
     points
 }
@@ -49,10 +47,8 @@ fn disturb(word: &mut [u8], count: usize)
     requires { count ≤ length word.old }
     ensures { Disturbs count word.old word.new }
 {
-    let mut s = 0;
-    while s < count {
+    for s in 0..count {
         word[s] = wrong(word[s]);
-        s += 1;
     }
 }
 
@@ -73,47 +69,41 @@ fn sail(departure: Departure, count: usize) -> Heard
     departures::hear(&points, &word, M, L, WANTED, &mut room)
 }
 
-fn line(name: &[u8], n: u64) {
-    io::write_all(STDOUT_FILENO, name);
-    io::print_decimal(STDOUT_FILENO, n);
-    io::write_all(STDOUT_FILENO, b"\n");
+fn line(rt: &impl Print, name: &str, n: u64) -> io::Result<()> {
+    println!(rt; "{name}={n}")
 }
 
-fn print_number(number: u8) {
-    line(b"number=", number as u64);
+fn print_number(rt: &impl Print, number: u8) -> io::Result<()> {
+    line(rt, "number", u64::from(number))
 }
 
-fn print_departure(departure: Departure) {
+fn print_departure(rt: &impl Print, departure: Departure) -> io::Result<()> {
     let mut time = [0u8; TIME_BYTES];
     let number = departures::show(departure, &mut time);
     if number != 0 {
-        return print_number(number);
+        return print_number(rt, number);
     }
-    line(b"boat=", departure.boat as u64);
-    line(b"day=", departure.day as u64);
-    io::write_all(STDOUT_FILENO, b"time=");
-    io::write_all(STDOUT_FILENO, &time);
-    io::write_all(STDOUT_FILENO, b"\n");
+    line(rt, "boat", u64::from(departure.boat))?;
+    line(rt, "day", u64::from(departure.day))?;
+    rt.write_all(b"time=")?;
+    rt.write_all(&time)?;
+    rt.write_all(b"\n")
 }
 
-fn tell(heard: Heard) {
+fn tell(rt: &impl Print, heard: Heard) -> io::Result<()> {
     match heard {
-        Heard::None => {
-            io::write_all(STDOUT_FILENO, b"none\n");
-        }
-        Heard::One(departure) => print_departure(departure),
-        Heard::Several => {
-            io::write_all(STDOUT_FILENO, b"several\n");
-        }
-        Heard::Refused(number) => print_number(number),
+        Heard::None => rt.println("none"),
+        Heard::One(departure) => print_departure(rt, departure),
+        Heard::Several => rt.println("several"),
+        Heard::Refused(number) => print_number(rt, number),
     }
 }
 
-fn main() {
+fn main(rt: HostRuntime) -> io::Result<()> {
     let last_boat = Departure {
         boat: 7,
         day: 100,
         minute: 1455,
     };
-    tell(sail(last_boat, DISTURBED_MOST));
+    tell(&rt, sail(last_boat, DISTURBED_MOST))
 }
