@@ -15,12 +15,12 @@ impl Library {
     /// The sentence says what is missing.
     pub fn new() -> Result<Library, String> {
         let top = PathBuf::from(env!("CARGO_MANIFEST_DIR")).join("../..");
-        let listing = top.join("target/bin/listing");
+        let listing = top.join("crates/listing/out/listing");
         if listing.exists() {
             Ok(Library { listing })
         } else {
-            let missing = "target/bin/listing is missing";
-            let build = "`rt check listing` at the top of the repository builds it";
+            let missing = "crates/listing/out/listing is missing";
+            let build = "`rt run < stdin` in crates/listing builds it";
             Err(format!("{missing}; {build}"))
         }
     }

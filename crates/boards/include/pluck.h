@@ -1,4 +1,4 @@
-/* Pluckcluster's jobs for C. Link the static library of the crate `boards` (`rt staticlib boards`).
+/* Pluckcluster's jobs for C. Link the static library of the crate `boards`: `rt lib` in its folder writes out/libboards.a.
 
    What holds of each call is proved of the functions in src/lib.rt and src/departure_calls.rt. Nothing checks these declarations against
    those files: they are to be changed together.
