@@ -13,8 +13,8 @@ fn digit(n: u16) -> u8
 
 // Hours and minutes of the service day: the hours go on past 23.
 pub fn put_clock(minute: u16, text: &mut [u8])
-    requires minute_le_minute_most { minute ≤ minute_most }
-    requires time_bytes_in_bounds { time_bytes ≤ length text.old }
+    requires minute_bound { minute ≤ minute_most }
+    requires room { time_bytes ≤ length text.old }
     ensures { text.new ≡ sets text.old 0 (clock minute) }
 {
     let hours = minute / 60;

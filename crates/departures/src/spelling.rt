@@ -11,7 +11,7 @@ const BASE: u16 = DEPARTURE_FIELD as u16;
 
 pub fn put_symbols(departure: Departure, message: &mut [u8])
     requires in_range { InRange departure }
-    requires departure_symbols_in_bounds { departure_symbols ≤ length message.old }
+    requires room { departure_symbols ≤ length message.old }
     ensures { message.new ≡ sets message.old 0 (six_symbols departure) }
 {
     message[0] = departure.boat;

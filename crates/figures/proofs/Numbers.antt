@@ -18,7 +18,7 @@ use Rattle.rows.specs.Jobs.{start_table, request_table}
 use Rattle.rows.proofs.Accepted.{Accepted}
 use Rattle.near.specs.Job.{list_table}
 use Rattle.near.specs.declared.Near.{Near}
-use Rattle.figures.specs.Figures.{zero_to15, EncodeGives, Refused}
+use Rattle.figures.specs.Figures.{zero_to_15, EncodeGives, Refused}
 use Rattle.figures.proofs.Computed.{seven}
 
 -- a line that does not apply, and what the rest of the table gives
@@ -108,7 +108,7 @@ module _ (points word : List ℕ) where
         (inr (inr (inr (omega arith))), refl))
 
 pub symbol_16 : (word : List ℕ) (k m l t : ℕ) → length word ≡ 16 → 2 ≤ k → k < 16 → (BadHeights m l → ⊥) → TooLarge 16 word
-    → Refused 6 16 zero_to15 word k m l t
+    → Refused 6 16 zero_to_15 word k m l t
 symbol_16 word k m l t same low degree heights large =
     refused 5 (λ lent. not_unlisted sixteen ⊳ count ⊳ (λ n. n same) ⊳ good-degree low degree ⊳ heights ⊳ inl (inr large, refl))
     (λ room messages. not_unlisted sixteen ⊳ count ⊳ (λ n. n same) ⊳ good-degree low degree ⊳ heights ⊳ inl (inr large, refl))

@@ -17,7 +17,7 @@ use Rattle.poly.specs.Table.{First}
 use Rattle.poly.specs.Encode.{encode_table, value_at}
 use Rattle.poly.proofs.TableLaws.{first_determined, not_unlisted, none-large, good-count, good-degree}
 use Rattle.rows.specs.Jobs.{start_table}
-use Rattle.figures.specs.Figures.{six, zero_to15, Encodes, Calls, three, at_three, word_0_0_1, Figures}
+use Rattle.figures.specs.Figures.{six, zero_to_15, Encodes, Calls, three, at_three, word_0_0_1, Figures}
 use Rattle.figures.proofs.Computed.{seven, small, distinct, all-below, all-different, at-three}
 use Rattle.figures.proofs.Calls.{calls_give, calls-lightest}
 use Rattle.figures.proofs.Numbers.{◌⊳◌, start-goes, p_9, n_2, k-n, l_9, n_17, symbol_16}
@@ -90,10 +90,10 @@ message_1_3_4 = at-six (1 ∷ 3 ∷ 4 ∷ []) (1 ∷ 2 ∷ 4 ∷ 0 ∷ 4 ∷ 2 �
 abbrev word_1_2 : List ℕ
 word_1_2 = 1 ∷ 3 ∷ 5 ∷ 7 ∷ 9 ∷ 11 ∷ 13 ∷ 15 ∷ 2 ∷ 0 ∷ 6 ∷ 4 ∷ 10 ∷ 8 ∷ 14 ∷ 12 ∷ []
 
-message_1_2 : Encodes 16 zero_to15 (1 ∷ 2 ∷ []) word_1_2
+message_1_2 : Encodes 16 zero_to_15 (1 ∷ 2 ∷ []) word_1_2
 unfolding value symbol sum_of product_of bit_product bit_remainder
 message_1_2 =
-    encodes {p = 16} {points = zero_to15} {message = 1 ∷ 2 ∷ []} {word = word_1_2}
+    encodes {p = 16} {points = zero_to_15} {message = 1 ∷ 2 ∷ []} {word = word_1_2}
     (record {
       size = sixteen;
       some = omega arith;

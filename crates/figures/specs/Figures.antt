@@ -1,6 +1,6 @@
 -- The figures of docs/RULES.md, section 18, that are marked to be proved, as one statement. Each says what any outcome is that meets the
 -- contracts of the jobs, whatever the lent bytes were before.
---   six, three             the points 1 to 6 and the points 1, 2, 3; word_0_0_1  a word at these; zero_to15  the points 0 to 15
+--   six, three             the points 1 to 6 and the points 1, 2, 3; word_0_0_1  a word at these; zero_to_15  the points 0 to 15
 --   Encodes p points message word   encode gives this word
 --   Calls q                start, turn and finish one after the other, for the request q
 --   Gives                  what three such calls hand back, and the bytes of the curve
@@ -35,8 +35,8 @@ use Rattle.departures.specs.declared.Departure.{Departure}
 abbrev pub six : List ℕ
 six = 1 ∷ 2 ∷ 3 ∷ 4 ∷ 5 ∷ 6 ∷ []
 
-abbrev pub zero_to15 : List ℕ
-zero_to15 = 0 ∷ 1 ∷ 2 ∷ 3 ∷ 4 ∷ 5 ∷ 6 ∷ 7 ∷ 8 ∷ 9 ∷ 10 ∷ 11 ∷ 12 ∷ 13 ∷ 14 ∷ 15 ∷ []
+abbrev pub zero_to_15 : List ℕ
+zero_to_15 = 0 ∷ 1 ∷ 2 ∷ 3 ∷ 4 ∷ 5 ∷ 6 ∷ 7 ∷ 8 ∷ 9 ∷ 10 ∷ 11 ∷ 12 ∷ 13 ∷ 14 ∷ 15 ∷ []
 
 abbrev pub Encodes : ℕ → List ℕ → List ℕ → List ℕ → Type 0
 Encodes p points message word =
@@ -129,10 +129,10 @@ pub record Figures : Type 0 where
       → k < length points
       → Refused 5 7 points word k m 9 t
   -- over the field of 16: from the point 8 on its double has a fifth bit, and 19, that is x^4 + x + 1, is taken off
-  pub message_1_2_at_16 : Encodes 16 zero_to15 (1 ∷ 2 ∷ []) (1 ∷ 3 ∷ 5 ∷ 7 ∷ 9 ∷ 11 ∷ 13 ∷ 15 ∷ 2 ∷ 0 ∷ 6 ∷ 4 ∷ 10 ∷ 8 ∷ 14 ∷ 12 ∷ [])
+  pub message_1_2_at_16 : Encodes 16 zero_to_15 (1 ∷ 2 ∷ []) (1 ∷ 3 ∷ 5 ∷ 7 ∷ 9 ∷ 11 ∷ 13 ∷ 15 ∷ 2 ∷ 0 ∷ 6 ∷ 4 ∷ 10 ∷ 8 ∷ 14 ∷ 12 ∷ [])
   pub n_17_gives_2_at_16 : (points word : List ℕ) (k m l t : ℕ) → length points ≡ 17 → EncodeGives 2 16 points k × Refused 2 16 points word k m l t
   pub symbol_16_gives_6_at_16 : (word : List ℕ) (k m l t : ℕ) → length word ≡ 16 → 2 ≤ k → k < 16 → (BadHeights m l → ⊥) → TooLarge 16 word
-      → Refused 6 16 zero_to15 word k m l t
+      → Refused 6 16 zero_to_15 word k m l t
   -- 24:15
   pub minute_1455 : MinuteGives 1455 (1 ∷ 15 ∷ 29 ∷ []) (50 ∷ 52 ∷ 58 ∷ 49 ∷ 53 ∷ [])
   -- 29:59

@@ -55,7 +55,7 @@ fn disturb(word: &mut [u8], count: usize)
 // What a board hears of the departure where so many of its symbols were disturbed.
 fn sail(departure: Departure, count: usize) -> Heard
     requires in_range { InRange departure }
-    requires count_le_departure_field { count ≤ departure_field }
+    requires count_bound { count ≤ departure_field }
     ensures sailed { Sailed departure count result }
     ensures hears { count ≤ disturbed_most → Hears departure result }
 {

@@ -7,7 +7,8 @@ pub returns-then-note-lt-NOTE_BYTES : goal.returns-then-note-lt-NOTE_BYTES
 returns-then-note-lt-NOTE_BYTES c = finish-unread c.if-note-lt-NOTE_BYTES.true c.clear_lent.ensures
 
 pub returns-then-back-lt-BACK_BYTES : goal.returns-then-back-lt-BACK_BYTES
-returns-then-back-lt-BACK_BYTES c = finish-short c.if-note-lt-NOTE_BYTES.false c.if-back-lt-BACK_BYTES.true (rw c.read_note-given.ensures at c.finish.ensures)
+returns-then-back-lt-BACK_BYTES c = finish-short c.if-note-lt-NOTE_BYTES.false c.if-back-lt-BACK_BYTES.true
+    (rw c.read_note-given.ensures at c.finish.ensures)
 
 pub returns : goal.returns
 returns c =

@@ -11,10 +11,12 @@ returns-then-number-ne0 c = puts-refuses c.refuse_put-number.ensures c.if-number
 
 pub put_clock-requires : goal.put_clock-requires
 put_clock-requires c =
-    let passed : InRange c.args.departure × (time_bytes ≤ length c.args.text.now) = put-passed c.args.text.now c.refuse_put-number.ensures c.if-number-ne0.false in
-    let (range, room) = passed in record { minute_le_minute_most = range.minute; time_bytes_in_bounds = room }
+    let passed : InRange c.args.departure × (time_bytes ≤ length c.args.text.now) =
+    put-passed c.args.text.now c.refuse_put-number.ensures c.if-number-ne0.false in
+    let (range, room) = passed in record { minute_bound = range.minute; room = room }
 
 pub returns : goal.returns
 returns c =
-    let passed : InRange c.args.departure × (time_bytes ≤ length c.args.text.now) = put-passed c.args.text.now c.refuse_put-number.ensures c.if-number-ne0.false in
+    let passed : InRange c.args.departure × (time_bytes ≤ length c.args.text.now) =
+    put-passed c.args.text.now c.refuse_put-number.ensures c.if-number-ne0.false in
     puts-done (rw c.if-number-ne0.false at c.refuse_put-number.ensures) passed.1 c.put_clock.ensures

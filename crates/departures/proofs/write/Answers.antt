@@ -11,10 +11,12 @@ returns-then-number-ne0 c = puts-refuses c.refuse_put-number.ensures c.if-number
 
 pub put_symbols-requires : goal.put_symbols-requires
 put_symbols-requires c =
-    let passed : InRange c.args.departure × (departure_symbols ≤ length c.args.message.now) = put-passed c.args.message.now c.refuse_put-number.ensures c.if-number-ne0.false in
-    let (range, room) = passed in record { in_range = range; departure_symbols_in_bounds = room }
+    let passed : InRange c.args.departure × (departure_symbols ≤ length c.args.message.now) =
+    put-passed c.args.message.now c.refuse_put-number.ensures c.if-number-ne0.false in
+    let (range, room) = passed in record { in_range = range; room = room }
 
 pub returns : goal.returns
 returns c =
-    let passed : InRange c.args.departure × (departure_symbols ≤ length c.args.message.now) = put-passed c.args.message.now c.refuse_put-number.ensures c.if-number-ne0.false in
+    let passed : InRange c.args.departure × (departure_symbols ≤ length c.args.message.now) =
+    put-passed c.args.message.now c.refuse_put-number.ensures c.if-number-ne0.false in
     puts-done (rw c.if-number-ne0.false at c.refuse_put-number.ensures) passed.1 c.put_symbols.ensures

@@ -5,7 +5,8 @@ use Rattle.field.specs.Kernels.{subtracted}
 use Rattle.kernels.proofs.kernel_remainder.Given as goal
 
 abbrev pub invariant-loop-i : goal.invariant-loop-i
-invariant-loop-i l = (l.i ≤ l.len) × (l.m ≤ 31) × (length l.rows ≡ length l.initial.rows) × (l.rows ≡ subtracted l.p l.c l.to l.from l.i l.initial.rows)
+invariant-loop-i l = (l.i ≤ l.len) × (l.m ≤ 31) × (length l.rows ≡ length l.initial.rows) × (l.rows
+    ≡ subtracted l.p l.c l.to l.from l.i l.initial.rows)
 
 abbrev pub decreases-loop-i : goal.decreases-loop-i
 decreases-loop-i l = l.len - l.i

@@ -20,15 +20,21 @@ returns-then-number-ne0 c = list-refuses c.refuse_list-number.ensures c.if-numbe
 
 pub interpolate-weighed-requires : goal.interpolate-weighed-requires
 interpolate-weighed-requires c =
-    let first : let a = c.args in First (list_table a.p a.points.now a.word.now a.k a.m a.l a.t a.room.now a.messages.now) 0 = rw c.if-number-ne0.false at c.refuse_list-number.ensures in
+    let first : let a =
+    c.args in First (list_table a.p a.points.now a.word.now a.k a.m a.l a.t a.room.now a.messages.now) 0 = rw c.if-number-ne0.false at
+    c.refuse_list-number.ensures in
     let taken : let a = c.args in Taken a.p a.points.now a.word.now a.k a.m a.l a.t a.room.now a.messages.now = let a = c.args in
     list-taken a.p a.points.now a.word.now a.k a.m a.l a.t a.room.now a.messages.now first in
-    let fits : let a = c.args in curve_bytes (shape a.p (length a.points.now) a.k a.m a.l) ≤ curve_most = curve-small (good-fine (accepted-note taken.accepted)) in
+    let fits : let a =
+    c.args in curve_bytes (shape a.p (length a.points.now) a.k a.m a.l) ≤ curve_most = curve-small (good-fine
+    (accepted-note taken.accepted)) in
     record { first = taken.start; curve_room = fits }
 
 pub clear-requires : goal.clear-requires
 clear-requires c =
-    let first : let a = c.args in First (list_table a.p a.points.now a.word.now a.k a.m a.l a.t a.room.now a.messages.now) 0 = rw c.if-number-ne0.false at c.refuse_list-number.ensures in
+    let first : let a =
+    c.args in First (list_table a.p a.points.now a.word.now a.k a.m a.l a.t a.room.now a.messages.now) 0 = rw c.if-number-ne0.false at
+    c.refuse_list-number.ensures in
     let taken : let a = c.args in Taken a.p a.points.now a.word.now a.k a.m a.l a.t a.room.now a.messages.now = let a = c.args in
     list-taken a.p a.points.now a.word.now a.k a.m a.l a.t a.room.now a.messages.now first in
     let w = taken.working in
@@ -41,22 +47,35 @@ overflow_mul-m c =
 
 pub returns-then-m-t : goal.returns-then-m-t
 returns-then-m-t c =
-    let first : let a = c.args in First (list_table a.p a.points.now a.word.now a.k a.m a.l a.t a.room.now a.messages.now) 0 = rw c.if-number-ne0.false at c.refuse_list-number.ensures in
+    let first : let a =
+    c.args in First (list_table a.p a.points.now a.word.now a.k a.m a.l a.t a.room.now a.messages.now) 0 = rw c.if-number-ne0.false at
+    c.refuse_list-number.ensures in
     list-unvouched first c.interpolate-weighed.ensures c.clear.ensures (omega (arith, c.if-m-t.true))
 
 pub run-count-requires : goal.run-count-requires
 run-count-requires c =
-    let first : let a = c.args in First (list_table a.p a.points.now a.word.now a.k a.m a.l a.t a.room.now a.messages.now) 0 = rw c.if-number-ne0.false at c.refuse_list-number.ensures in
+    let first : let a =
+    c.args in First (list_table a.p a.points.now a.word.now a.k a.m a.l a.t a.room.now a.messages.now) 0 = rw c.if-number-ne0.false at
+    c.refuse_list-number.ensures in
     let taken : let a = c.args in Taken a.p a.points.now a.word.now a.k a.m a.l a.t a.room.now a.messages.now = let a = c.args in
     list-taken a.p a.points.now a.word.now a.k a.m a.l a.t a.room.now a.messages.now first in
-    let fits : let a = c.args in curve_bytes (shape a.p (length a.points.now) a.k a.m a.l) ≤ curve_most = curve-small (good-fine (accepted-note taken.accepted)) in
-    record { bounds = (taken.accepted.heights.order, taken.accepted.places.count); runs = search-runs taken c.interpolate-weighed.ensures fits c.if-m-t.false }
+    let fits : let a =
+    c.args in curve_bytes (shape a.p (length a.points.now) a.k a.m a.l) ≤ curve_most = curve-small (good-fine
+    (accepted-note taken.accepted)) in
+    record {
+      bounds = (taken.accepted.heights.order, taken.accepted.places.count);
+      runs = search-runs taken c.interpolate-weighed.ensures fits c.if-m-t.false;
+    }
 
 pub returns : goal.returns
 returns c =
-    let first : let a = c.args in First (list_table a.p a.points.now a.word.now a.k a.m a.l a.t a.room.now a.messages.now) 0 = rw c.if-number-ne0.false at c.refuse_list-number.ensures in
+    let first : let a =
+    c.args in First (list_table a.p a.points.now a.word.now a.k a.m a.l a.t a.room.now a.messages.now) 0 = rw c.if-number-ne0.false at
+    c.refuse_list-number.ensures in
     let taken : let a = c.args in Taken a.p a.points.now a.word.now a.k a.m a.l a.t a.room.now a.messages.now = let a = c.args in
     list-taken a.p a.points.now a.word.now a.k a.m a.l a.t a.room.now a.messages.now first in
-    let fits : let a = c.args in curve_bytes (shape a.p (length a.points.now) a.k a.m a.l) ≤ curve_most = curve-small (good-fine (accepted-note taken.accepted)) in
+    let fits : let a =
+    c.args in curve_bytes (shape a.p (length a.points.now) a.k a.m a.l) ≤ curve_most = curve-small (good-fine
+    (accepted-note taken.accepted)) in
     list-answers first c.interpolate-weighed.ensures c.clear.ensures c.if-m-t.false
     (search-lists taken c.interpolate-weighed.ensures fits c.if-m-t.false c.run-count.ensures)

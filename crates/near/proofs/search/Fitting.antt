@@ -108,7 +108,8 @@ module _ {F : Field} (Φ : FieldLaws F) (N W : ℕ) where
         null b j e (yes k) = light j e k (λ _. zero-le)
         null b j e (no k) =
             let q : i * j ≤ u * j = mul-le-mul_right j iu in
-            ap (T j) (sym (add-sub_cancel e (i * j))) ∙ sym (slice-at L i (e + i * j) T j (omega arith)) ∙ lowest-none (e + i * j) j (omega arith)
+            ap (T j) (sym (add-sub_cancel e (i * j))) ∙ sym (slice-at L i (e + i * j) T j (omega arith))
+            ∙ lowest-none (e + i * j) j (omega arith)
 
         go : Dec (lowest F N W i T < W) → lowest F N W i T ≤ W → lowest F N W i T < W
         go (yes k) h = k
@@ -118,10 +119,12 @@ module _ {F : Field} (Φ : FieldLaws F) (N W : ℕ) where
   pub root-fits : (g f : Seq R) (i : ℕ) (Q : Curve R) → value (Series R) (add_s R (mul_s R (mono R R.𝟙 i) f) g) N Q ≡ zero_s R
       → value R (f 0) N (slice R i (lowest F N W i (shift (Series R) g N Q)) (shift (Series R) g N Q)) ≡ R.𝟘
   root-fits g f i Q root =
-      root-symbol L N g f i Q (lowest F N W i (shift (Series R) g N Q)) root (lowest-none (below-height R (below-shift (series L) g N Q)) i)
+      root-symbol L N g f i Q (lowest F N W i (shift (Series R) g N Q)) root (lowest-none (below-height R (below-shift
+      (series L) g N Q)) i)
 
   -- for a curve of weight below W: the roots of the lowest slice are the symbols that fit
-  module _ {u w s : ℕ} {Q : Curve R} (tall : Height R N Q) (lead : Lead R u w s Q) (inside : w < W) {g : Seq R} (short : Below R (suc u) g) {i : ℕ}
+  module _ {u w s : ℕ} {Q : Curve R} (tall : Height R N Q) (lead : Lead R u w s Q) (inside : w < W) {g : Seq R} (short : Below R
+      (suc u) g) {i : ℕ}
       (iu : i ≤ u) where
     abbrev T : Curve R
     T = shift (Series R) g N Q
@@ -134,7 +137,8 @@ module _ {F : Field} (Φ : FieldLaws F) (N W : ℕ) where
         some : Zero R T → ⊥
         some z =
             let e : T ≡ zero_s (Series R) = fun_ext (λ j. fun_ext (λ d. z j d ∙ sym (zero_s-at R d)) ∙ sym (zero_s-at (Series R) j)) in
-            let q : Q ≡ zero_s (Series R) = sym (shift-back (series L) g N Q (height-below R tall)) ∙ rw e (shift-null (series L) (neg_s R g) N) in
+            let q : Q ≡ zero_s (Series R) =
+            sym (shift-back (series L) g N Q (height-below R tall)) ∙ rw e (shift-null (series L) (neg_s R g) N) in
             lead-nonzero lead (λ j d. ap (λ (P : Curve R). P j d) q ∙ zero-at R j d)
 
     slice-fits : (c : R.Car) → value R c N (slice R i (lowest F N W i T) T) ≡ R.𝟘 → Fits R N g i Q c

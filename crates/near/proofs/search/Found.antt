@@ -109,11 +109,15 @@ module _ {F : Field} (Φ : FieldLaws F) (task : Task F) (num : Numbering F task.
         (rw (left-shift Φ task num N Q tall x)
         (root-fits Φ N W (polynomial task x) (polynomial task (c ∷ y)) (length x) Q (rw (← polynomial-append Φ task num x (c ∷ y)) root)))
         (rw (level-next task N W left x c Q, ← append_snoc x c y)
-        (level-all tall left (x ++ (c ∷ [])) y (record { long = let e = s.long in omega arith; small = λ i l. s.small (suc i) (omega arith) })
+        (level-all tall left (x ++ (c ∷ [])) y (record {
+          long = let e = s.long in omega arith;
+          small = λ i l. s.small (suc i) (omega arith);
+        })
         (rw (append_snoc x c y) root) (rw (append_snoc x c y) le)))))
 
     -- the list, if Q vanishes along every wanted message
-    pub found-list : (Q : Curve R) → Height R N Q → ((g : Seq R) → Wanted task g → value (Series R) g N Q ≡ zero_s R) → IsList task (found task N W Q)
+    pub found-list : (Q : Curve R) → Height R N Q → ((g : Seq R) → Wanted task g → value (Series R) g N Q ≡ zero_s R)
+        → IsList task (found task N W Q)
     unfolding curve_left
     found-list Q tall roots =
         record {

@@ -46,7 +46,8 @@ module _ {plan : Plan} {points word message : List ℕ} (received : Received pla
       ∙ ap (λ (n : ℕ). count s + n)
       (choose_yes (agrees? task (polynomial task message) s) 1 0 (sym value-is ∙ same-byte plan.shape.p (sym e ∙ d ∙ sym received-is)))
 
-  pub differs : {v : ℕ} → v ≡ (value_at plan.shape.p message (get_or points s 0)).byte → (v ≡ get_or word s 0 → ⊥) → count (suc s) ≡ count s
+  pub differs : {v : ℕ} → v ≡ (value_at plan.shape.p message (get_or points s 0)).byte → (v ≡ get_or word s 0 → ⊥) → count (suc s)
+      ≡ count s
   differs {v} e d =
       agreements-suc task (polynomial task message) s
       ∙ ap (λ (n : ℕ). count s + n)
@@ -56,7 +57,8 @@ module _ {plan : Plan} {points word message : List ℕ} (received : Received pla
 
 -- what is kept of the message
 module _ (plan : Plan) (points word chosen : List ℕ) {a : ℕ}
-    (count : a ≡ agreements (task_for plan points word) (length points) (polynomial (task_for plan points word) (take plan.k chosen))) where
+    (count : a ≡ agreements (task_for plan points word) (length points) (polynomial (task_for plan points word)
+    (take plan.k chosen))) where
   pub kept-none : a < plan.t → kept plan points word chosen ≡ []
   kept-none h =
       choose_no (dec_le plan.t

@@ -59,7 +59,16 @@ blocks-none {k} = record { long = sym (zero-mul k) }
 
 blocks-append : {k : ℕ} {l r : List (List ℕ)} → Blocks k l → Blocks k r → Blocks k (l ++ r)
 blocks-append {k} {l} {r} a b =
-    record { long = rw (flat-append l r, length-append (flat l) (flat r), length-append l r, a.long, b.long, add-mul (length l) (length r) k) }
+    record {
+      long = rw (
+        flat-append l r,
+        length-append (flat l) (flat r),
+        length-append l r,
+        a.long,
+        b.long,
+        add-mul (length l) (length r) k,
+      );
+    }
 
 blocks-choose : {k : ℕ} {A : Type 0} (d : Dec A) {l : List (List ℕ)} → Blocks k l → Blocks k (choose d l [])
 blocks-choose (yes h) b = b
@@ -122,7 +131,8 @@ pub record Going (plan : Plan) (points word curve₀ chosen₀ messages₀ : Lis
     (found c : ℕ) : Type 0 where
   pub upto : c ≤ plan.shape.p
   pub long : length chosen ≡ length chosen₀
-  pub leaves : Leaves plan left count (each c (tried plan points word curve₀ chosen₀ left)) curve₀ curve chosen₀ chosen messages₀ messages found
+  pub leaves : Leaves plan left count (each c (tried plan points word curve₀ chosen₀ left)) curve₀ curve chosen₀ chosen messages₀ messages
+      found
 
 module _ {plan : Plan} {points word curve₀ chosen₀ : List ℕ} {left : ℕ} (s : Searches plan points word curve₀ chosen₀ left) where
   abbrev i : ℕ
@@ -168,8 +178,17 @@ module _ {plan : Plan} {points word curve₀ chosen₀ : List ℕ} {left : ℕ} 
     try-fails : (RootAt plan.shape curve₀ i low c → ⊥) → try c ≡ []
     try-fails h = choose_no fits (with plan points word curve₀ chosen₀ left c) [] (λ d. h (rw least (rw s.spelt.long at d)))
 
-  pub going-none : {messages₀ : List ℕ} {count : ℕ} → Going plan points word curve₀ chosen₀ messages₀ left count curve₀ chosen₀ messages₀ count 0
-  going-none = record { upto = omega arith; long = refl; leaves = record { same = refl; front = refl; wrote = wrote-none (each-none try) } }
+  pub going-none : {messages₀ : List ℕ} {count : ℕ} → Going plan points word curve₀ chosen₀ messages₀ left count curve₀ chosen₀ messages₀
+      count 0
+  going-none = record {
+    upto = omega arith;
+    long = refl;
+    leaves = record {
+      same = refl;
+      front = refl;
+      wrote = wrote-none (each-none try);
+    };
+  }
 
   module _ {messages₀ curve chosen messages : List ℕ} {count found c : ℕ}
       (g : Going plan points word curve₀ chosen₀ messages₀ left count curve chosen messages found c) where
@@ -200,7 +219,8 @@ module _ {plan : Plan} {points word curve₀ chosen₀ : List ℕ} {left : ℕ} 
       failing e = try-fails least c (λ d. test.fails e (rw g.leaves.same d))
 
     module _ (h : c < plan.shape.p) where
-      pub opens : try c ≡ with plan points word curve₀ chosen₀ left c → Room plan count (after plan points word curve₀ chosen₀ left) messages₀
+      pub opens : try c ≡ with plan points word curve₀ chosen₀ left c → Room plan count
+          (after plan points word curve₀ chosen₀ left) messages₀
           → Room plan found (with plan points word curve chosen left c) messages
       opens e room =
           let t = g.leaves.wrote.total in
@@ -209,11 +229,13 @@ module _ {plan : Plan} {points word curve₀ chosen₀ : List ℕ} {left : ℕ} 
           rw (each-suc try c, length-append (each c try) (try c), e) in
           let a = each-mono try (c + 1) plan.shape.p (omega arith) in
           let r : (count + length (each plan.shape.p try)) * plan.k ≤ length messages₀ = rw after-each at room.enough in
-          let b : (found + length (with plan points word curve₀ chosen₀ left c)) * plan.k ≤ (count + length (each plan.shape.p try)) * plan.k =
+          let b : (found + length (with plan points word curve₀ chosen₀ left c)) * plan.k ≤ (count + length
+          (each plan.shape.p try)) * plan.k =
           mul-le-mul_right plan.k (omega arith) in
           record { enough = rw with_now (omega arith) }
 
-      pub grown : {curve' chosen' messages' : List ℕ} {r : ℕ} → try c ≡ with plan points word curve₀ chosen₀ left c → length chosen' ≡ length chosen
+      pub grown : {curve' chosen' messages' : List ℕ} {r : ℕ} → try c ≡ with plan points word curve₀ chosen₀ left c → length chosen'
+          ≡ length chosen
           → Leaves plan left found (with plan points word curve chosen left c) curve curve' chosen chosen' messages messages' r
           → Going plan points word curve₀ chosen₀ messages₀ left count curve' chosen' messages' r (c + 1)
       grown e n o =
@@ -281,7 +303,8 @@ module _ {plan : Plan} {points word curve₀ chosen₀ : List ℕ} {left : ℕ} 
           }
 
       module _ {curve₂ chosen₂ messages messages₂ : List ℕ} {count r : ℕ}
-          (rest : Leaves plan (left - 1) count (after plan points word curve₁ chosen₁ (left - 1)) curve₁ curve₂ chosen₁ chosen₂ messages messages₂ r)
+          (rest : Leaves plan (left - 1) count (after plan points word curve₁ chosen₁
+          (left - 1)) curve₁ curve₂ chosen₁ chosen₂ messages messages₂ r)
           {n : ℕ} (less : n ≡ neg_byte plan.shape.p c) where
         pub back_tries : Tries plan.shape i n curve₂
         back_tries =
@@ -298,7 +321,8 @@ module _ {plan : Plan} {points word curve₀ chosen₀ : List ℕ} {left : ℕ} 
             }
 
 -- the whole search, on the plan that is made of a request
-module _ {plan request : Plan} (is : plan ≡ request) {points word curve messages : List ℕ} (asked : Runs request points word curve messages) where
+module _ {plan request : Plan} (is : plan ≡ request) {points word curve messages : List ℕ}
+    (asked : Runs request points word curve messages) where
   runs : Runs plan points word curve messages
   runs = rw is asked
 

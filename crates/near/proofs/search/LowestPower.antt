@@ -15,7 +15,8 @@ module _ (F : Field) where
   pub some-none : (N : ℕ) (f : Seq F.ring) → ((j : ℕ) → j < N → f j ≡ F.ring.𝟘) → some? F N f ≡ false
   unfolding some?
   some-none zero f h = refl
-  some-none (suc N) f h = choose_yes (F.same? (f N) F.ring.𝟘) (some? F N f) true (h N (omega arith)) ∙ some-none N f (λ j l. h j (omega arith))
+  some-none (suc N) f h = choose_yes (F.same? (f N) F.ring.𝟘) (some? F N f) true (h N (omega arith))
+      ∙ some-none N f (λ j l. h j (omega arith))
 
   pub some-one : (N : ℕ) (f : Seq F.ring) (j : ℕ) → j < N → f j ≢ F.ring.𝟘 → some? F N f ≡ true
   unfolding some?

@@ -96,7 +96,8 @@ module _ {R : Ring} (L : RingLaws R) (N i : ℕ) (c : R.Car) (T : Curve R) where
   -- one pass over the curve's symbols: T_j[d] becomes T_j[d] + c T_(j+1)[d - i], for d from i on
   module _ (a j : ℕ) (l : a ≤ j) where
     pass-curve : (d : ℕ) → pass (Series R) (mono R c i) a T j d ≡ T j d ⊕ mul_s R (mono R c i) (T (suc j)) d
-    pass-curve d = ap (λ (f : Seq R). f d) (pass-from (series L) (mono R c i) a T j l) ∙ add_s-at R (T j) (mul_s R (mono R c i) (T (suc j))) d
+    pass-curve d = ap (λ (f : Seq R). f d) (pass-from (series L) (mono R c i) a T j l)
+        ∙ add_s-at R (T j) (mul_s R (mono R c i) (T (suc j))) d
 
     pub pass-symbol : (d : ℕ) → i ≤ d → pass (Series R) (mono R c i) a T j d ≡ T j d ⊕ c ⊗ T (suc j) (d - i)
     pass-symbol d k =

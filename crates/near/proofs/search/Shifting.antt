@@ -77,7 +77,8 @@ module _ {S : Shape} {i c : ℕ} {xs : List ℕ} (tries : Tries S i c xs) {q : �
 
   -- bytes outside the slot, and those below x^i in it, stay
   byte-other : {a e : ℕ} → e ≤ S.width → (a < q) ⊎ ((suc q ≤ a) ⊎ (e < i)) → get_or ys (a * s + e) 0 ≡ get_or xs (a * s + e) 0
-  byte-other {a} {e} k o = subtracted-outside p (neg_byte p c) (q * s + i) (suc q * s) xs (s - i) (a * s + e) (go (dec_lt a q) (dec_lt q a) o)
+  byte-other {a} {e} k o = subtracted-outside p (neg_byte p c) (q * s + i) (suc q * s) xs (s - i) (a * s + e) (go (dec_lt a q)
+      (dec_lt q a) o)
     where
       go : Dec (a < q) → Dec (q < a) → (a < q) ⊎ ((suc q ≤ a) ⊎ (e < i)) → (a * s + e < q * s + i) ⊎ (q * s + i + (s - i) ≤ a * s + e)
       go (yes l) d o = let b = block-end s l in inl (omega arith)
@@ -107,7 +108,8 @@ module _ {S : Shape} {i c : ℕ} {xs : List ℕ} (tries : Tries S i c xs) {q : �
   heavy : (a e : ℕ) → i ≤ e → S.width < e + S.u * a → curve_of S xs (suc a) (e - i) ≡ symbol p 0
   heavy a e h k = let n = tries.next in laid.light (suc a) (e - i) (omega arith) (λ _. zero-le)
 
-  slot-taken : (e : ℕ) → i ≤ e → curve_of S ys q e ≡ sum_of p (curve_of S xs q e) (product_of p (symbol p c) (curve_of S xs (suc q) (e - i)))
+  slot-taken : (e : ℕ) → i ≤ e → curve_of S ys q e ≡ sum_of p (curve_of S xs q e) (product_of p (symbol p c) (curve_of S xs (suc q)
+      (e - i)))
   slot-taken e h = go (dec_le e S.width)
     where
       go : Dec (e ≤ S.width) → curve_of S ys q e ≡ sum_of p (curve_of S xs q e) (product_of p (symbol p c) (curve_of S xs (suc q) (e - i)))
@@ -131,9 +133,11 @@ module _ {S : Shape} {i c : ℕ} {xs : List ℕ} (tries : Tries S i c xs) {q : �
       go : Dec (q * s + i ≤ r) → Dec (r < q * s + i + (s - i)) → get_or ys r 0 < p
       go (yes a) (yes b) =
           let x : r ≡ q * s + i + (r - (q * s + i)) = omega arith in
-          rw x (subtracted-below p (neg_byte p c) (q * s + i) (suc q * s) xs (s - i) (r - (q * s + i)) subtracts.target.within (omega arith)
+          rw x (subtracted-below p (neg_byte p c) (q * s + i) (suc q * s) xs (s - i) (r - (q * s + i)) subtracts.target.within
+          (omega arith)
           laid.fine.size)
-      go (yes a) (no b) = rw (subtracted-outside p (neg_byte p c) (q * s + i) (suc q * s) xs (s - i) r (inr (omega arith))) (laid.below r h)
+      go (yes a) (no b) = rw (subtracted-outside p (neg_byte p c) (q * s + i) (suc q * s) xs (s - i) r (inr (omega arith)))
+          (laid.below r h)
       go (no a) b = rw (subtracted-outside p (neg_byte p c) (q * s + i) (suc q * s) xs (s - i) r (inl (omega arith))) (laid.below r h)
 
   light-taken : Under R S.u (suc S.width) 0 (curve_of S ys)
@@ -158,7 +162,11 @@ module _ {S : Shape} {i c : ℕ} {xs : List ℕ} (tries : Tries S i c xs) {q : �
         laid = record { fine = laid.fine; room = let r = laid.room in omega arith; below = byte-small; light = light-taken };
         slots = λ a e h k g. let z : a ≡ q = omega arith in rw z (slot-taken e g);
         others = slot-other;
-        rest = record { long = long; same = λ r h. subtracted-outside p (neg_byte p c) (q * s + i) (suc q * s) xs (s - i) r (inr (omega arith)) };
+        rest = record {
+          long = long;
+          same = λ r h. subtracted-outside p (neg_byte p c) (q * s + i) (suc q * s) xs (s - i) r (inr
+              (omega arith));
+        };
       }
 
 -- a run of slots, from the lowest up

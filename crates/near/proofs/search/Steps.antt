@@ -46,7 +46,8 @@ module _ {R : Ring} (L : RingLaws R) where
       go : Dec (i * j ≤ v) → mul_s R (mono R 𝟙 (i * j)) (T j) v ≡ slice R i v T j
       go (yes k) =
           let e : v ≡ i * j + (v - i * j) = omega arith in
-          ap (mul_s R (mono R 𝟙 (i * j)) (T j)) e ∙ mono-mul-at L 𝟙 (i * j) (v - i * j) (T j) ∙ one-mul L (T j (v - i * j)) ∙ sym (slice-at i v T j k)
+          ap (mul_s R (mono R 𝟙 (i * j)) (T j)) e ∙ mono-mul-at L 𝟙 (i * j) (v - i * j) (T j) ∙ one-mul L (T j (v - i * j))
+          ∙ sym (slice-at i v T j k)
       go (no k) = mono-mul-low L 𝟙 (i * j) v (T j) (omega arith) ∙ sym (slice_beyond i v T j (omega arith))
 
   -- Q at y = g + x^i y, then at y = f, is Q at y = g + x^i f

@@ -33,7 +33,13 @@ pub bounds-xs-i : goal.bounds-xs-i
 bounds-xs-i c = let s = c.loop-i.invariant.1.rest.long in omega (arith, c.requires)
 
 pub loop-i-preserved : goal.loop-i-preserved
-loop-i-preserved c = let s = c.loop-i in (omega arith, zeroed-more s.invariant.1 (let e = s.invariant.1.rest.long in omega (arith, c.requires)))
+loop-i-preserved c = let s = c.loop-i in (
+  omega arith,
+  zeroed-more s.invariant.1 (let e = s.invariant.1.rest.long in omega (
+    arith,
+    c.requires,
+  )),
+)
 
 pub shape_of-xs : goal.shape_of-xs
 shape_of-xs c = c.loop-i.invariant.1.rest.long

@@ -18,7 +18,10 @@ plus_product-sum-requires c =
     let x : c.loop-i.sum.value < c.args.p =
     rw c.loop-i.invariant.1 (byte-below c.requires.size
     (horner c.args.p c.args.a (length c.args.coefficients.now) (symbols_of c.args.p c.args.coefficients.now)
-    c.loop-i.i)) in record { operand = record { size = c.requires.size; below = c.requires.below (c.loop-i.i - 1) (search rules) }; operands = record { size = c.requires.size; left = c.requires.point; right = x } }
+    c.loop-i.i)) in record {
+      operand = record { size = c.requires.size; below = c.requires.below (c.loop-i.i - 1) (search rules) };
+      operands = record { size = c.requires.size; left = c.requires.point; right = x };
+    }
 
 pub loop-i-preserved : goal.loop-i-preserved
 loop-i-preserved c =

@@ -8,7 +8,8 @@ use Rattle.poly.proofs.BufferLaws.{horner, horner-none, horner-more, horner-all}
 use Rattle.poly.proofs.value_at.Given as goal
 
 abbrev pub invariant-loop-i : goal.invariant-loop-i
-invariant-loop-i l = (l.i ≤ length l.coefficients) × (l.sum.value ≡ (horner l.p l.a (length l.coefficients) (symbols_of l.p l.coefficients) l.i).byte)
+invariant-loop-i l = (l.i ≤ length l.coefficients) × (l.sum.value ≡ (horner l.p l.a (length l.coefficients)
+    (symbols_of l.p l.coefficients) l.i).byte)
 
 abbrev pub decreases-loop-i : goal.decreases-loop-i
 decreases-loop-i l = l.i

@@ -53,7 +53,8 @@ module _ {S : Shape} {i : ℕ} {xs : List ℕ} (a : RaisesRow S i xs) where
         same = λ q o. copied-outside from to xs len q (⊎_elim (λ k. inl (omega arith)) (λ k. inr (omega arith)) o);
       }
 
-  pub raised-holds : (Q : Curve (symbols S.p).ring) → HoldsRow S (i - 1) Q xs → ((d : ℕ) → d ≤ S.width → get_or xs (i * curve_bytes S + d) 0 ≡ 0)
+  pub raised-holds : (Q : Curve (symbols S.p).ring) → HoldsRow S (i - 1) Q xs → ((d : ℕ) → d ≤ S.width
+      → get_or xs (i * curve_bytes S + d) 0 ≡ 0)
       → HoldsRow S i (cons_s (Series (symbols S.p).ring) (zero_s (symbols S.p).ring) Q) (raised_row S i xs)
   unfolding cons_s zero_s
   raised-holds Q f g zero d o k =
@@ -92,7 +93,8 @@ module _ {S : Shape} {rows : ℕ → Curve (symbols S.p).ring} where
     pub filled-bare : (q : ℕ) → q < curve_bytes S → get_or ys (i * curve_bytes S + q) 0 ≡ 0
     filled-bare q k = f.bare (i * curve_bytes S + q) (omega arith) (let w = row-end S inside in omega arith)
 
-    filled-row : {zs : List ℕ} → Kept (i * curve_bytes S) (curve_bytes S) ys zs → HoldsRow S i (rows i) zs → RowsFilled S rows (i + 1) xs zs
+    filled-row : {zs : List ℕ} → Kept (i * curve_bytes S) (curve_bytes S) ys zs → HoldsRow S i (rows i) zs
+        → RowsFilled S rows (i + 1) xs zs
     filled-row {zs} k h =
         let w = row-end S inside in
         let v = suc-mul i (curve_bytes S) in
@@ -114,7 +116,8 @@ module _ {S : Shape} {rows : ℕ → Curve (symbols S.p).ring} where
 abbrev pub to_fill : (S : Shape) → ℕ → List ℕ → List ℕ → ℕ → Curve (symbols S.p).ring
 to_fill S m h e = start_row (symbols S.p).ring m (symbols_of S.p e) (symbols_of S.p h)
 
-module _ (S : Shape) (m : ℕ) (h e : List ℕ) {i : ℕ} {xs ys zs : List ℕ} (inside : i ≤ S.l) (f : RowsFilled S (to_fill S m h e) i xs ys) where
+module _ (S : Shape) (m : ℕ) (h e : List ℕ) {i : ℕ} {xs ys zs : List ℕ} (inside : i ≤ S.l) (f : RowsFilled S
+    (to_fill S m h e) i xs ys) where
   pub filled-low : FilledLow S i m h e ys zs → RowsFilled S (to_fill S m h e) (i + 1) xs zs
   filled-low b = filled-row inside f b.kept b.is
 

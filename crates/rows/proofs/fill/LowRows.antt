@@ -111,7 +111,12 @@ module _ {S : Shape} {i m : ℕ} {h e xs : List ℕ} (a : FillsLow S i m h e xs)
           let w = block-end (slot S) {i = zero} {k = suc j} (omega arith) in
           let z : place S i (suc j) d ≡ base + (suc j * slot S + d) = omega arith in
           b.kept.same (place S i (suc j) d) (inr (omega arith))
-          ∙ rw (z, one-other (suc j * slot S + d) (omega arith) v, low_row-height L (symbols_of p e) (symbols_of p h) n 0 (suc j) d (omega arith))
+          ∙ rw (
+            z,
+            one-other (suc j * slot S + d) (omega arith) v,
+            low_row-height L (symbols_of p e) (symbols_of p h) n 0 (suc j) d
+                (omega arith),
+          )
           (sym (zero-byte p))
 
   -- as the loop begins
@@ -156,7 +161,8 @@ module _ {S : Shape} {i m : ℕ} {h e xs : List ℕ} (a : FillsLow S i m h e xs)
             ∙ b.is j d g f
             ∙ ap (λ (x : Element p). x.byte)
             (low_row-height L (symbols_of p e) (symbols_of p h) n q j d (omega arith)
-            ∙ sym (raised-height L (symbols_of p h) (row n q) (suc q) (low_row-height L (symbols_of p e) (symbols_of p h) n q) j d (omega arith)))
+            ∙ sym (raised-height L (symbols_of p h) (row n q) (suc q) (low_row-height L (symbols_of p e) (symbols_of p h) n q) j d
+            (omega arith)))
 
   pub low-all : {bs ys : List ℕ} → LowFilled S i (m - i) 0 h e xs bs → LowFilled S i (m - i) i h e bs ys → FilledLow S i m h e xs ys
   low-all f b = record { kept = kept-then f.kept b.kept; is = rw (start_row-low L (symbols_of p e) (symbols_of p h) m i a.low) b.is }

@@ -48,7 +48,10 @@ module _ {p : ℕ} (l : Listed p) where
     power-none =
         record {
           kept = kept-none at len xs;
-          power = λ e h. byte-is p (power 0 e) (a.region.below e h) (rw (pow-zero (Series R) (symbols_of p f), one-mul (series L) (from p xs at)));
+          power = λ e h. byte-is p (power 0 e) (a.region.below e h) (rw (
+            pow-zero (Series R) (symbols_of p f),
+            one-mul (series L) (from p xs at),
+          ));
         }
 
     module _ {i : ℕ} {ys : List ℕ} (b : Power p f i at len xs ys) where
@@ -108,7 +111,8 @@ module _ {p : ℕ} (l : Listed p) where
       raised-lowest e =
           record {
             kept = n.kept;
-            is = λ i k. n.is i k ∙ rw e (ap (λ (a : Element p). a.byte) (sym (raised-zero L (symbols_of p h) (slots_at p base slot xs) i)));
+            is = λ i k. n.is i k ∙ rw e (ap (λ (a : Element p). a.byte) (sym (raised-zero L (symbols_of p h)
+                (slots_at p base slot xs) i)));
           }
 
       pub raised-above : (from : ℕ) {ws : List ℕ} → 0 < j → from + slot ≡ base + j * slot → base + j * slot + slot ≤ length xs
@@ -116,7 +120,10 @@ module _ {p : ℕ} (l : Listed p) where
       raised-above from {ws} some d room e =
           rw e
           record {
-            kept = kept-then n.kept (record { long = length-subtracted p c at from zs slot; same = subtracted-outside p c at from zs slot });
+            kept = kept-then n.kept (record {
+              long = length-subtracted p c at from zs slot;
+              same = subtracted-outside p c at from zs slot;
+            });
             is = λ i k. byte-is p (raised p h base slot xs j i) (subtracted-below p c at from zs slot i w k l)
                 (subtracted-symbol p c at from zs slot i w k ∙ value i k);
           }
@@ -175,7 +182,13 @@ module _ {p : ℕ} {h : List ℕ} {base slot slots : ℕ} where
           factor = a.factor;
           short = omega (arith, a.short, top);
           region =
-              record { within = omega (arith, top); below = λ i k. rw (r.same (base + i) (omega arith)) (a.region.below i (omega (arith, top))) };
+              record {
+                within = omega (arith, top);
+                below = λ i k. rw (r.same (base + i) (omega arith)) (a.region.below i (omega (
+                  arith,
+                  top,
+                )));
+              };
         }
 
     pub raising-more : {zs : List ℕ} → RaisedSlot p h base slot (j - 1) ys zs → Raising p h base slot slots (j - 1) xs zs
@@ -188,9 +201,11 @@ module _ {p : ℕ} {h : List ℕ} {base slot slots : ℕ} where
       where
         -- the slots up to this one are as they were
         old : (e : ℕ) → e < slot → (i q : ℕ) → i ≤ j - 1 → q ≤ e → slots_at p base slot ys i q ≡ slots_at p base slot xs i q
-        old e g i q k f = let n = block-end slot {i = i} {k = j} (omega arith) in ap (symbol p) (r.same (base + i * slot + q) (omega arith))
+        old e g i q k f = let n = block-end slot {i = i} {k = j} (omega arith) in ap (symbol p) (r.same (base + i * slot + q)
+            (omega arith))
 
-        go : (i e : ℕ) → j - 1 ≤ i → i < slots → e < slot → Dec (i ≡ j - 1) → get_or zs (base + i * slot + e) 0 ≡ (raised p h base slot xs i e).byte
+        go : (i e : ℕ) → j - 1 ≤ i → i < slots → e < slot → Dec (i ≡ j - 1) → get_or zs (base + i * slot + e) 0
+            ≡ (raised p h base slot xs i e).byte
         go i e k m g (yes d) =
             rw d (b.is e g ∙ ap (λ (a : Element p). a.byte)
             (raised-low (symbols-field p l).ring (symbols_of p h) (slots_at p base slot ys) (slots_at p base slot xs) (j - 1) e (old e g)))

@@ -32,35 +32,43 @@ of-shape-requires c =
 pub find-light-requires : goal.find-light-requires
 find-light-requires c =
     let accepted : Finishes c.args.note c.args.rows.now c.args.curve.now = finishes c.refuse_finish-number.ensures c.if-number-ne0.false in
-    let whole : Whole c.of-shape.result c.args.rows.now = subst (λ (S : Shape). Whole S c.args.rows.now) (sym c.of-shape.ensures) accepted.whole in
+    let whole : Whole c.of-shape.result c.args.rows.now =
+    subst (λ (S : Shape). Whole S c.args.rows.now) (sym c.of-shape.ensures) accepted.whole in
     whole
 
 pub hand_over-requires : goal.hand_over-requires
 hand_over-requires c =
     let accepted : Finishes c.args.note c.args.rows.now c.args.curve.now = finishes c.refuse_finish-number.ensures c.if-number-ne0.false in
-    let whole : Whole c.of-shape.result c.args.rows.now = subst (λ (S : Shape). Whole S c.args.rows.now) (sym c.of-shape.ensures) accepted.whole in
-    let room : curve_bytes c.of-shape.result ≤ length c.args.curve.now = subst (λ (S : Shape). curve_bytes S ≤ length c.args.curve.now) (sym c.of-shape.ensures) accepted.room in
-    let light : c.find-light.result.weight ≤ c.of-shape.result.width = let p = c.find-light.ensures in lead-light p.lead _ (whole.sound.light _ p.inside) in
+    let whole : Whole c.of-shape.result c.args.rows.now =
+    subst (λ (S : Shape). Whole S c.args.rows.now) (sym c.of-shape.ensures) accepted.whole in
+    let room : curve_bytes c.of-shape.result ≤ length c.args.curve.now =
+    subst (λ (S : Shape). curve_bytes S ≤ length c.args.curve.now) (sym c.of-shape.ensures) accepted.room in
+    let light : c.find-light.result.weight ≤ c.of-shape.result.width =
+    let p = c.find-light.ensures in lead-light p.lead _ (whole.sound.light _ p.inside) in
     let p = c.find-light.ensures in
     record { bytes = whole.bytes; inside = omega (arith, p.inside); lead = p.lead; light = light; room = room }
 
 pub overflow_cast-result : goal.overflow_cast-result
 overflow_cast-result c =
     let accepted : Finishes c.args.note c.args.rows.now c.args.curve.now = finishes c.refuse_finish-number.ensures c.if-number-ne0.false in
-    let whole : Whole c.of-shape.result c.args.rows.now = subst (λ (S : Shape). Whole S c.args.rows.now) (sym c.of-shape.ensures) accepted.whole in
-    let light : c.find-light.result.weight ≤ c.of-shape.result.width = let p = c.find-light.ensures in lead-light p.lead _ (whole.sound.light _ p.inside) in
+    let whole : Whole c.of-shape.result c.args.rows.now =
+    subst (λ (S : Shape). Whole S c.args.rows.now) (sym c.of-shape.ensures) accepted.whole in
+    let light : c.find-light.result.weight ≤ c.of-shape.result.width =
+    let p = c.find-light.ensures in lead-light p.lead _ (whole.sound.light _ p.inside) in
     omega (arith, light, whole.bytes.fine.wide)
 
 pub height-requires : goal.height-requires
 height-requires c =
     let accepted : Finishes c.args.note c.args.rows.now c.args.curve.now = finishes c.refuse_finish-number.ensures c.if-number-ne0.false in
-    let whole : Whole c.of-shape.result c.args.rows.now = subst (λ (S : Shape). Whole S c.args.rows.now) (sym c.of-shape.ensures) accepted.whole in
+    let whole : Whole c.of-shape.result c.args.rows.now =
+    subst (λ (S : Shape). Whole S c.args.rows.now) (sym c.of-shape.ensures) accepted.whole in
     (whole, omega (arith, c.find-light.ensures.inside))
 
 pub overflow_cast-result-2 : goal.overflow_cast-result-2
 overflow_cast-result-2 c =
     let accepted : Finishes c.args.note c.args.rows.now c.args.curve.now = finishes c.refuse_finish-number.ensures c.if-number-ne0.false in
-    let whole : Whole c.of-shape.result c.args.rows.now = subst (λ (S : Shape). Whole S c.args.rows.now) (sym c.of-shape.ensures) accepted.whole in
+    let whole : Whole c.of-shape.result c.args.rows.now =
+    subst (λ (S : Shape). Whole S c.args.rows.now) (sym c.of-shape.ensures) accepted.whole in
     omega (arith, height-inside _ _ _ c.height.ensures, whole.bytes.fine.high)
 
 pub returns : goal.returns

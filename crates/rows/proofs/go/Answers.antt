@@ -27,14 +27,18 @@ loop-r-init c =
 
 pub row_lead-lead-requires : goal.row_lead-lead-requires
 row_lead-lead-requires c =
-    let g : Going c.of-shape.result c.args.note.r c.args.allowance c.args.rows.now c.loop-r.rows c.loop-r.r c.loop-r.left = c.loop-r.invariant.2 in
+    let g : Going c.of-shape.result c.args.note.r c.args.allowance c.args.rows.now c.loop-r.rows c.loop-r.r c.loop-r.left =
+    c.loop-r.invariant.2 in
     let h = c.loop-r-test.true in
     (g.bytes, (h, light-row g.bytes h (g.sound.light c.loop-r.r h)))
 
 pub loop-r-preserved-then-s-r : goal.loop-r-preserved-then-s-r
 loop-r-preserved-then-s-r c =
-    let g : Going c.of-shape.result c.args.note.r c.args.allowance c.args.rows.now c.loop-r.rows c.loop-r.r c.loop-r.left = c.loop-r.invariant.2 in
-    let lead : Lead (symbols c.of-shape.result.p).ring c.of-shape.result.u c.row_lead-lead.result.weight c.row_lead-lead.result.power (rows_of c.of-shape.result c.loop-r.rows c.loop-r.r) = going-lead g c.loop-r.r c.loop-r-test.true c.row_lead-lead.result c.row_lead-lead.ensures in (
+    let g : Going c.of-shape.result c.args.note.r c.args.allowance c.args.rows.now c.loop-r.rows c.loop-r.r c.loop-r.left =
+    c.loop-r.invariant.2 in
+    let lead : Lead (symbols c.of-shape.result.p).ring c.of-shape.result.u c.row_lead-lead.result.weight c.row_lead-lead.result.power
+    (rows_of c.of-shape.result c.loop-r.rows c.loop-r.r) = going-lead g c.loop-r.r c.loop-r-test.true c.row_lead-lead.result
+    c.row_lead-lead.ensures in (
       c.loop-r.invariant.0,
       c.loop-r.invariant.1,
       subst (λ (r : ℕ). Going c.of-shape.result c.args.note.r c.args.allowance c.args.rows.now c.loop-r.rows r c.loop-r.left)
@@ -44,49 +48,71 @@ loop-r-preserved-then-s-r c =
 
 pub returns-then-left-eq0 : goal.returns-then-left-eq0
 returns-then-left-eq0 c =
-    let g : Going c.of-shape.result c.args.note.r c.args.allowance c.args.rows.now c.loop-r.rows c.loop-r.r c.loop-r.left = c.loop-r.invariant.2 in
-    let lead : Lead (symbols c.of-shape.result.p).ring c.of-shape.result.u c.row_lead-lead.result.weight c.row_lead-lead.result.power (rows_of c.of-shape.result c.loop-r.rows c.loop-r.r) = going-lead g c.loop-r.r c.loop-r-test.true c.row_lead-lead.result c.row_lead-lead.ensures in
+    let g : Going c.of-shape.result c.args.note.r c.args.allowance c.args.rows.now c.loop-r.rows c.loop-r.r c.loop-r.left =
+    c.loop-r.invariant.2 in
+    let lead : Lead (symbols c.of-shape.result.p).ring c.of-shape.result.u c.row_lead-lead.result.weight c.row_lead-lead.result.power
+    (rows_of c.of-shape.result c.loop-r.rows c.loop-r.r) =
+    going-lead g c.loop-r.r c.loop-r-test.true c.row_lead-lead.result c.row_lead-lead.ensures in
     ends-paused c.loop-r.invariant.0 g c.at_row.ensures (omega arith) c.loop-r-test.true lead c.if-s-r.false
     c.if-left-eq0.true refl
 
 pub row_lead-other-requires : goal.row_lead-other-requires
 row_lead-other-requires c =
-    let g : Going c.of-shape.result c.args.note.r c.args.allowance c.args.rows.now c.loop-r.rows c.loop-r.r c.loop-r.left = c.loop-r.invariant.2 in
-    let lead : Lead (symbols c.of-shape.result.p).ring c.of-shape.result.u c.row_lead-lead.result.weight c.row_lead-lead.result.power (rows_of c.of-shape.result c.loop-r.rows c.loop-r.r) = going-lead g c.loop-r.r c.loop-r-test.true c.row_lead-lead.result c.row_lead-lead.ensures in
+    let g : Going c.of-shape.result c.args.note.r c.args.allowance c.args.rows.now c.loop-r.rows c.loop-r.r c.loop-r.left =
+    c.loop-r.invariant.2 in
+    let lead : Lead (symbols c.of-shape.result.p).ring c.of-shape.result.u c.row_lead-lead.result.weight c.row_lead-lead.result.power
+    (rows_of c.of-shape.result c.loop-r.rows c.loop-r.r) =
+    going-lead g c.loop-r.r c.loop-r-test.true c.row_lead-lead.result c.row_lead-lead.ensures in
     let k = going-below g c.loop-r-test.true lead c.if-s-r.false in
     let h : c.row_lead-lead.result.power ≤ c.of-shape.result.l = omega arith in
     (g.bytes, (h, light-row g.bytes h (g.sound.light c.row_lead-lead.result.power h)))
 
 pub vanishes-requires : goal.vanishes-requires
 vanishes-requires c =
-    let g : Going c.of-shape.result c.args.note.r c.args.allowance c.args.rows.now c.loop-r.rows c.loop-r.r c.loop-r.left = c.loop-r.invariant.2 in
-    let lead : Lead (symbols c.of-shape.result.p).ring c.of-shape.result.u c.row_lead-lead.result.weight c.row_lead-lead.result.power (rows_of c.of-shape.result c.loop-r.rows c.loop-r.r) = going-lead g c.loop-r.r c.loop-r-test.true c.row_lead-lead.result c.row_lead-lead.ensures in
-    let crosses : Crosses c.of-shape.result c.loop-r.rows c.loop-r.r c.row_lead-lead.result.weight c.row_lead-lead.result.power c.row_lead-other.result.weight = going_crosses g c.loop-r-test.true lead c.if-s-r.false c.row_lead-other.result
+    let g : Going c.of-shape.result c.args.note.r c.args.allowance c.args.rows.now c.loop-r.rows c.loop-r.r c.loop-r.left =
+    c.loop-r.invariant.2 in
+    let lead : Lead (symbols c.of-shape.result.p).ring c.of-shape.result.u c.row_lead-lead.result.weight c.row_lead-lead.result.power
+    (rows_of c.of-shape.result c.loop-r.rows c.loop-r.r) =
+    going-lead g c.loop-r.r c.loop-r-test.true c.row_lead-lead.result c.row_lead-lead.ensures in
+    let crosses : Crosses c.of-shape.result c.loop-r.rows c.loop-r.r c.row_lead-lead.result.weight c.row_lead-lead.result.power
+    c.row_lead-other.result.weight = going_crosses g c.loop-r-test.true lead c.if-s-r.false c.row_lead-other.result
     c.row_lead-other.ensures in
     crosses
 
 pub returns-then-vanishes : goal.returns-then-vanishes
 returns-then-vanishes c =
-    let g : Going c.of-shape.result c.args.note.r c.args.allowance c.args.rows.now c.loop-r.rows c.loop-r.r c.loop-r.left = c.loop-r.invariant.2 in
-    let lead : Lead (symbols c.of-shape.result.p).ring c.of-shape.result.u c.row_lead-lead.result.weight c.row_lead-lead.result.power (rows_of c.of-shape.result c.loop-r.rows c.loop-r.r) = going-lead g c.loop-r.r c.loop-r-test.true c.row_lead-lead.result c.row_lead-lead.ensures in
-    let crosses : Crosses c.of-shape.result c.loop-r.rows c.loop-r.r c.row_lead-lead.result.weight c.row_lead-lead.result.power c.row_lead-other.result.weight = going_crosses g c.loop-r-test.true lead c.if-s-r.false c.row_lead-other.result
+    let g : Going c.of-shape.result c.args.note.r c.args.allowance c.args.rows.now c.loop-r.rows c.loop-r.r c.loop-r.left =
+    c.loop-r.invariant.2 in
+    let lead : Lead (symbols c.of-shape.result.p).ring c.of-shape.result.u c.row_lead-lead.result.weight c.row_lead-lead.result.power
+    (rows_of c.of-shape.result c.loop-r.rows c.loop-r.r) =
+    going-lead g c.loop-r.r c.loop-r-test.true c.row_lead-lead.result c.row_lead-lead.ensures in
+    let crosses : Crosses c.of-shape.result c.loop-r.rows c.loop-r.r c.row_lead-lead.result.weight c.row_lead-lead.result.power
+    c.row_lead-other.result.weight = going_crosses g c.loop-r-test.true lead c.if-s-r.false c.row_lead-other.result
     c.row_lead-other.ensures in
     ends_halted c.loop-r.invariant.0 g c.at_row-then-vanishes.ensures refl crosses (omega arith)
     (c.vanishes.ensures.holds c.if-vanishes.true) refl
 
 pub update-requires : goal.update-requires
 update-requires c =
-    let g : Going c.of-shape.result c.args.note.r c.args.allowance c.args.rows.now c.loop-r.rows c.loop-r.r c.loop-r.left = c.loop-r.invariant.2 in
-    let lead : Lead (symbols c.of-shape.result.p).ring c.of-shape.result.u c.row_lead-lead.result.weight c.row_lead-lead.result.power (rows_of c.of-shape.result c.loop-r.rows c.loop-r.r) = going-lead g c.loop-r.r c.loop-r-test.true c.row_lead-lead.result c.row_lead-lead.ensures in
-    let crosses : Crosses c.of-shape.result c.loop-r.rows c.loop-r.r c.row_lead-lead.result.weight c.row_lead-lead.result.power c.row_lead-other.result.weight = going_crosses g c.loop-r-test.true lead c.if-s-r.false c.row_lead-other.result
+    let g : Going c.of-shape.result c.args.note.r c.args.allowance c.args.rows.now c.loop-r.rows c.loop-r.r c.loop-r.left =
+    c.loop-r.invariant.2 in
+    let lead : Lead (symbols c.of-shape.result.p).ring c.of-shape.result.u c.row_lead-lead.result.weight c.row_lead-lead.result.power
+    (rows_of c.of-shape.result c.loop-r.rows c.loop-r.r) =
+    going-lead g c.loop-r.r c.loop-r-test.true c.row_lead-lead.result c.row_lead-lead.ensures in
+    let crosses : Crosses c.of-shape.result c.loop-r.rows c.loop-r.r c.row_lead-lead.result.weight c.row_lead-lead.result.power
+    c.row_lead-other.result.weight = going_crosses g c.loop-r-test.true lead c.if-s-r.false c.row_lead-other.result
     c.row_lead-other.ensures in
     crosses
 
 pub loop-r-preserved : goal.loop-r-preserved
 loop-r-preserved c =
-    let g : Going c.of-shape.result c.args.note.r c.args.allowance c.args.rows.now c.loop-r.rows c.loop-r.r c.loop-r.left = c.loop-r.invariant.2 in
-    let lead : Lead (symbols c.of-shape.result.p).ring c.of-shape.result.u c.row_lead-lead.result.weight c.row_lead-lead.result.power (rows_of c.of-shape.result c.loop-r.rows c.loop-r.r) = going-lead g c.loop-r.r c.loop-r-test.true c.row_lead-lead.result c.row_lead-lead.ensures in
-    let crosses : Crosses c.of-shape.result c.loop-r.rows c.loop-r.r c.row_lead-lead.result.weight c.row_lead-lead.result.power c.row_lead-other.result.weight = going_crosses g c.loop-r-test.true lead c.if-s-r.false c.row_lead-other.result
+    let g : Going c.of-shape.result c.args.note.r c.args.allowance c.args.rows.now c.loop-r.rows c.loop-r.r c.loop-r.left =
+    c.loop-r.invariant.2 in
+    let lead : Lead (symbols c.of-shape.result.p).ring c.of-shape.result.u c.row_lead-lead.result.weight c.row_lead-lead.result.power
+    (rows_of c.of-shape.result c.loop-r.rows c.loop-r.r) =
+    going-lead g c.loop-r.r c.loop-r-test.true c.row_lead-lead.result c.row_lead-lead.ensures in
+    let crosses : Crosses c.of-shape.result c.loop-r.rows c.loop-r.r c.row_lead-lead.result.weight c.row_lead-lead.result.power
+    c.row_lead-other.result.weight = going_crosses g c.loop-r-test.true lead c.if-s-r.false c.row_lead-other.result
     c.row_lead-other.ensures in (
       c.loop-r.invariant.0,
       c.loop-r.invariant.1,
@@ -96,5 +122,6 @@ loop-r-preserved c =
 
 pub returns : goal.returns
 returns c =
-    let g : Going c.of-shape.result c.args.note.r c.args.allowance c.args.rows.now c.loop-r.rows c.loop-r.r c.loop-r.left = c.loop-r.invariant.2 in
+    let g : Going c.of-shape.result c.args.note.r c.args.allowance c.args.rows.now c.loop-r.rows c.loop-r.r c.loop-r.left =
+    c.loop-r.invariant.2 in
     ends-finished c.loop-r.invariant.0 g c.at_row-2.ensures refl c.loop-r-test.false refl

@@ -36,14 +36,20 @@ module _ (R : Ring) (u : ℕ) (Q : Curve R) where
   found-all f =
       record {
         none = λ e t i. f.none e t i zero-le;
-        lead = λ e. let d = f.lead e in record { degree = d.degree; weight = d.weight; nonzero = d.nonzero; rest = λ t i. d.rest t i zero-le };
+        lead = λ e. let d = f.lead e in record {
+          degree = d.degree;
+          weight = d.weight;
+          nonzero = d.nonzero;
+          rest = λ t i. d.rest t i zero-le;
+        };
       }
 
   -- one power of y more, of which the x-polynomial has degree size - 1
   module _ {j size : ℕ} {found : Found} (f : FoundFrom (suc j) found) (above : (e : ℕ) → size ≤ e → Q j e ≡ 𝟘)
       (last : 0 < size → Q j (size - 1) ≢ 𝟘) where
     -- what was found still leads where it is larger than all of the new power
-    keeps : (found.some ≡ false → (i : ℕ) → Q j i ≡ 𝟘) → (found.some ≡ true → (i : ℕ) → found.weight < i + u * j → Q j i ≡ 𝟘) → FoundFrom j found
+    keeps : (found.some ≡ false → (i : ℕ) → Q j i ≡ 𝟘) → (found.some ≡ true → (i : ℕ) → found.weight < i + u * j → Q j i ≡ 𝟘)
+        → FoundFrom j found
     keeps all beyond =
         record {
           none = λ e t i h. none e t i h (ℕ_discrete t j);
@@ -93,7 +99,8 @@ module _ (R : Ring) (u : ℕ) (Q : Curve R) where
             → found.some ≡ b → Q t i ≡ 𝟘
         rest t i m l q (yes e) b z = rw e (above i (over (rw e at l) (rw e at q) (dec_le (i + u * j) (size - 1 + u * j))))
           where
-            over : size - 1 + u * j ≤ i + u * j → (i + u * j ≤ size - 1 + u * j → suc j ≤ j) → Dec (i + u * j ≤ size - 1 + u * j) → size ≤ i
+            over : size - 1 + u * j ≤ i + u * j → (i + u * j ≤ size - 1 + u * j → suc j ≤ j) → Dec (i + u * j ≤ size - 1 + u * j)
+                → size ≤ i
             over l q (yes x) = let y = q x in absurd (omega arith)
             over l q (no x) = omega arith
         rest t i m l q (no e) false z = f.none z t i (omega arith)

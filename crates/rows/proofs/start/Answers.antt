@@ -20,17 +20,23 @@ returns-then-number-ne0 c =
 
 pub overflow_cast-n : goal.overflow_cast-n
 overflow_cast-n c =
-    let passed : let a = c.args in Accepted a.p a.points.now a.word.now a.k a.m a.l a.rows.now = start-accepted c.refuse_start-number.ensures c.if-number-ne0.false in
+    let passed : let a =
+    c.args in Accepted a.p a.points.now a.word.now a.k a.m a.l a.rows.now = start-accepted c.refuse_start-number.ensures
+    c.if-number-ne0.false in
     let P = passed.places in omega (arith, P.count, P.size)
 
 pub of-shape-requires : goal.of-shape-requires
 of-shape-requires c =
-    let passed : let a = c.args in Accepted a.p a.points.now a.word.now a.k a.m a.l a.rows.now = start-accepted c.refuse_start-number.ensures c.if-number-ne0.false in
+    let passed : let a =
+    c.args in Accepted a.p a.points.now a.word.now a.k a.m a.l a.rows.now = start-accepted c.refuse_start-number.ensures
+    c.if-number-ne0.false in
     let a = passed in (omega (arith, a.low), a.heights.order)
 
 pub interpolate-work-requires : goal.interpolate-work-requires
 interpolate-work-requires c =
-    let passed : let a = c.args in Accepted a.p a.points.now a.word.now a.k a.m a.l a.rows.now = start-accepted c.refuse_start-number.ensures c.if-number-ne0.false in
+    let passed : let a =
+    c.args in Accepted a.p a.points.now a.word.now a.k a.m a.l a.rows.now = start-accepted c.refuse_start-number.ensures
+    c.if-number-ne0.false in
     passed.places
 
 pub slice_bounds-fill-end : goal.slice_bounds-fill-end
@@ -38,7 +44,9 @@ slice_bounds-fill-end c = sym c.interpolate-work.ensures.long
 
 pub fill-requires : goal.fill-requires
 fill-requires c =
-    let passed : let a = c.args in Accepted a.p a.points.now a.word.now a.k a.m a.l a.rows.now = start-accepted c.refuse_start-number.ensures c.if-number-ne0.false in
+    let passed : let a =
+    c.args in Accepted a.p a.points.now a.word.now a.k a.m a.l a.rows.now = start-accepted c.refuse_start-number.ensures
+    c.if-number-ne0.false in
     let a = passed in
     rw c.of-shape.ensures
     record {
@@ -50,7 +58,9 @@ fill-requires c =
 
 pub returns : goal.returns
 returns c =
-    let passed : let a = c.args in Accepted a.p a.points.now a.word.now a.k a.m a.l a.rows.now = start-accepted c.refuse_start-number.ensures c.if-number-ne0.false in
+    let passed : let a =
+    c.args in Accepted a.p a.points.now a.word.now a.k a.m a.l a.rows.now = start-accepted c.refuse_start-number.ensures
+    c.if-number-ne0.false in
     let a = passed in
     let filled = rw c.of-shape.ensures at c.fill.ensures in
     record {

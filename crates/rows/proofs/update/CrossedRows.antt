@@ -74,7 +74,8 @@ module _ {S : Shape} {xs : List ℕ} {r w s v : ℕ} (x : Crosses S xs r w s v) 
   pub place-s : Placed S s s (v - S.u * s)
   place-s = let a = crosses-v in record { fine = x.bytes.fine; row = x.other; power = x.other; degree = omega arith }
 
-  pub ratio-byte : times_bytes S.p (get_or xs (place S r s (w - S.u * s)) 0) (inv_byte S.p (get_or xs (place S s s (v - S.u * s)) 0)) ≡ c.byte
+  pub ratio-byte : times_bytes S.p (get_or xs (place S r s (w - S.u * s)) 0) (inv_byte S.p (get_or xs (place S s s (v - S.u * s)) 0))
+      ≡ c.byte
   unfolding times_bytes ratio
   ratio-byte =
       rw (

@@ -10,7 +10,12 @@ use lib.Seq.{get_or-set_same, get_or-set_other}
 use Rattle.rows.specs.Work.{Exchanges, Exchanged}
 
 pub exchanged-none : (a b : ℕ) (xs : List ℕ) → Exchanged a b 0 xs xs
-exchanged-none a b xs = record { long = refl; first = λ k h. absurd (omega arith); second = λ k h. absurd (omega arith); rest = λ q g h. refl }
+exchanged-none a b xs = record {
+  long = refl;
+  first = λ k h. absurd (omega arith);
+  second = λ k h. absurd (omega arith);
+  rest = λ q g h. refl;
+}
 
 module _ {a b len i : ℕ} {xs ys : List ℕ} (e : Exchanges a b len xs) (h : i < len) (x : Exchanged a b i xs ys) where
   -- the next two bytes are as they were

@@ -138,7 +138,8 @@ module _ {S : Shape} {xs : List ℕ} {r w s v : ℕ} (x : Crosses S xs r w s v) 
           rw (a, b) (swapped.second (j * slot S + e) (slot-inside S g k))
 
       scaled-apart : (i : ℕ) → i ≢ r → get_or zs (place S i j e) 0 ≡ get_or ys (place S i j e) 0
-      scaled-apart i n = scaled-outside S.p (neg_byte S.p c.byte) (r * curve_bytes S) ys (curve_bytes S) (place S i j e) (place-apart S n g k)
+      scaled-apart i n = scaled-outside S.p (neg_byte S.p c.byte) (r * curve_bytes S) ys (curve_bytes S) (place S i j e)
+          (place-apart S n g k)
 
     long : length zs ≡ length xs
     long = length-scaled S.p (neg_byte S.p c.byte) (r * curve_bytes S) ys (curve_bytes S) ∙ swapped.long
@@ -185,7 +186,13 @@ module _ {S : Shape} {xs : List ℕ} {r w s v : ℕ} (x : Crosses S xs r w s v) 
             (rw (at_r g k) (place-below x.bytes x.other g k))))
             (subtracted-curve S zs (s * curve_bytes S) w (v - w) (rows r) stands (lead_bounds x.lead_r) (omega arith) x.bytes.fine.size
             (neg_byte S.p 1) (r * curve_bytes S) (rw long t) j e g k
-            ∙ rw (scaled-row j e g k, symbol-neg_byte, cross-at Φ.ring (v - w) (rows r) c (w - v) (rows s) j e, z, delay-zero R (rows s j) e)
+            ∙ rw (
+              scaled-row j e g k,
+              symbol-neg_byte,
+              cross-at Φ.ring (v - w) (rows r) c (w - v) (rows s) j e,
+              z,
+              delay-zero R (rows s j) e,
+            )
             (turned Φ.ring c (rows s j e) (delay R (v - w) (rows r j) e)))
 
 -- what the kernels ask and leave, with the curve's bytes and the factors as the code has them
@@ -296,7 +303,10 @@ module _ {S : Shape} {xs : List ℕ} {r w s v : ℕ} (x : Crosses S xs r w s v) 
     rw es (subtract-holds x h),
     record {
       long = rw es (length-subtracted S.p _ _ _ xs _);
-      same = λ q l. rw es (subtracted_elsewhere S _ _ r (w - v) xs (omega (arith, crosses-w x)) q (inr (omega (arith, row-end S x.current))));
+      same = λ q l. rw es (subtracted_elsewhere S _ _ r (w - v) xs (omega (arith, crosses-w x)) q (inr (omega (
+        arith,
+        row-end S x.current,
+      ))));
     },
   )
     where

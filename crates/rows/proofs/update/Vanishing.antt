@@ -27,7 +27,8 @@ use Rattle.rows.proofs.Placing.{slot-end, row-end, rows_of-at, rows_of_boxed}
 use Rattle.rows.proofs.update.CrossedRows.{crossed_r, crossed-under, crosses-w, crosses-v}
 
 -- a slot's bytes are below p
-pub slot-region : {S : Shape} {xs : List ℕ} {i j : ℕ} → Bytes S xs → i ≤ S.l → j ≤ S.l → Region S.p (i * curve_bytes S + j * slot S) (slot S) xs
+pub slot-region : {S : Shape} {xs : List ℕ} {i j : ℕ} → Bytes S xs → i ≤ S.l → j ≤ S.l
+    → Region S.p (i * curve_bytes S + j * slot S) (slot S) xs
 slot-region {S} b g h =
     let a = row-end S g in
     let d = slot-end S h in

@@ -105,7 +105,8 @@ returns-then-not-points c =
     let m = after_m (c.optional_line-m.ensures.holds (not-false _ c.if-not-m.false)) k in
     let l = after_l (c.optional_line-l.ensures.holds (not-false _ c.if-not-l.false)) m in
     let t = after_t (c.number_line-t.ensures.holds (not-false _ c.if-not-t.false)) l in
-    rw c.unread-then-not-points.ensures (unreadable (λ r p. refuses r.points c.numbers_line-points.ensures.takes (not-true _ c.if-not-points.true) (t r p)))
+    rw c.unread-then-not-points.ensures (unreadable (λ r p. refuses r.points c.numbers_line-points.ensures.takes
+    (not-true _ c.if-not-points.true) (t r p)))
 
 pub numbers_line-word-requires : goal.numbers_line-word-requires
 numbers_line-word-requires c = (c.numbers_line-points.ensures.takes.holds (not-false _ c.if-not-points.false)).inside
@@ -118,7 +119,8 @@ returns-then-not-word c =
     let l = after_l (c.optional_line-l.ensures.holds (not-false _ c.if-not-l.false)) m in
     let t = after_t (c.number_line-t.ensures.holds (not-false _ c.if-not-t.false)) l in
     let points = after_points (c.numbers_line-points.ensures.takes.holds (not-false _ c.if-not-points.false)) t in
-    rw c.unread-then-not-word.ensures (unreadable (λ r p. refuses r.word c.numbers_line-word.ensures.takes (not-true _ c.if-not-word.true) (points r p)))
+    rw c.unread-then-not-word.ensures (unreadable (λ r p. refuses r.word c.numbers_line-word.ensures.takes (not-true _ c.if-not-word.true)
+    (points r p)))
 
 pub returns-then-word-text : goal.returns-then-word-text
 returns-then-word-text c =
@@ -147,7 +149,13 @@ returns c =
       points = points;
       word = word;
     } in
-    let whole : Readable c.args.text.now meaning = goes_on (c.number_line-field.ensures.holds (not-false _ c.if-not-field.false)) (goes_on (c.number_line-k.ensures.holds (not-false _ c.if-not-k.false)) (goes_on (c.optional_line-m.ensures.holds (not-false _ c.if-not-m.false)) (goes_on (c.optional_line-l.ensures.holds (not-false _ c.if-not-l.false)) (goes_on (c.number_line-t.ensures.holds (not-false _ c.if-not-t.false)) (goes_on (c.numbers_line-points.ensures.takes.holds (not-false _ c.if-not-points.false)) (goes_on (c.numbers_line-word.ensures.takes.holds (not-false _ c.if-not-word.false)) (drop_of_length-le c.args.text.now c.if-word-text.false))))))) in
+    let whole : Readable c.args.text.now meaning =
+    goes_on (c.number_line-field.ensures.holds (not-false _ c.if-not-field.false)) (goes_on (c.number_line-k.ensures.holds
+    (not-false _ c.if-not-k.false)) (goes_on (c.optional_line-m.ensures.holds (not-false _ c.if-not-m.false)) (goes_on
+    (c.optional_line-l.ensures.holds (not-false _ c.if-not-l.false)) (goes_on (c.number_line-t.ensures.holds
+    (not-false _ c.if-not-t.false)) (goes_on (c.numbers_line-points.ensures.takes.holds (not-false _ c.if-not-points.false))
+    (goes_on (c.numbers_line-word.ensures.takes.holds (not-false _ c.if-not-word.false))
+    (drop_of_length-le c.args.text.now c.if-word-text.false))))))) in
     subst (HasRead c.args.text.now) (λ i. record {
       ok = true;
       field = meaning.field;

@@ -12,7 +12,8 @@ use Rattle.text.proofs.write.Goals as goal
 
 pub overflow_mul-lines : goal.overflow_mul-lines
 overflow_mul-lines c =
-    let low : c.args.count * c.args.k ≤ 65025 = mul-le-mul {n₂ = 255} {m₂ = 255} (omega (arith, c.ranges.count.fits)) (omega (arith, c.ranges.k.fits)) in
+    let low : c.args.count * c.args.k ≤ 65025 =
+    mul-le-mul {n₂ = 255} {m₂ = 255} (omega (arith, c.ranges.count.fits)) (omega (arith, c.ranges.k.fits)) in
     omega (arith, low)
 
 pub returns-then-messages-lines : goal.returns-then-messages-lines
@@ -20,12 +21,14 @@ returns-then-messages-lines c = refused (inr c.if-messages-lines.true)
 
 pub overflow_mul-lines-2 : goal.overflow_mul-lines-2
 overflow_mul-lines-2 c =
-    let low : c.args.count * c.args.k ≤ 65025 = mul-le-mul {n₂ = 255} {m₂ = 255} (omega (arith, c.ranges.count.fits)) (omega (arith, c.ranges.k.fits)) in
+    let low : c.args.count * c.args.k ≤ 65025 =
+    mul-le-mul {n₂ = 255} {m₂ = 255} (omega (arith, c.ranges.count.fits)) (omega (arith, c.ranges.k.fits)) in
     omega (arith, low, c.ranges.count.fits)
 
 pub overflow_add-lines : goal.overflow_add-lines
 overflow_add-lines c =
-    let low : c.args.count * c.args.k ≤ 65025 = mul-le-mul {n₂ = 255} {m₂ = 255} (omega (arith, c.ranges.count.fits)) (omega (arith, c.ranges.k.fits)) in
+    let low : c.args.count * c.args.k ≤ 65025 =
+    mul-le-mul {n₂ = 255} {m₂ = 255} (omega (arith, c.ranges.count.fits)) (omega (arith, c.ranges.k.fits)) in
     omega (arith, low, c.ranges.count.fits)
 
 pub returns-then-out-lines : goal.returns-then-out-lines
@@ -34,7 +37,8 @@ returns-then-out-lines c = refused (inl c.if-out-lines.true)
 pub returns-then-number-ne0 : goal.returns-then-number-ne0
 returns-then-number-ne0 c =
     has-written _ c.if-out-lines.false c.if-messages-lines.false
-    (first_alone ((reply c.args.number c.args.updates c.args.weight c.args.count c.args.k c.args.messages.now)) c.if-number-ne0.true c.put_line-next.ensures)
+    (first_alone ((reply c.args.number c.args.updates c.args.weight c.args.count c.args.k c.args.messages.now)) c.if-number-ne0.true
+    c.put_line-next.ensures)
 
 pub returns : goal.returns
 unfolding details

@@ -10,7 +10,12 @@ pub returns-then-departure-gt-DAY_MOST : goal.returns-then-departure-gt-DAY_MOST
 returns-then-departure-gt-DAY_MOST c = decided-false (λ r. let h = r.day in let g = c.if-departure-gt-DAY_MOST.true in omega arith)
 
 pub returns-then-departure-gt-MINUTE_MOST : goal.returns-then-departure-gt-MINUTE_MOST
-returns-then-departure-gt-MINUTE_MOST c = decided-false (λ r. let h = r.minute in let g = c.if-departure-gt-MINUTE_MOST.true in omega arith)
+returns-then-departure-gt-MINUTE_MOST c = decided-false (λ r. let h = r.minute in let g = c.if-departure-gt-MINUTE_MOST.true in omega
+    arith)
 
 pub returns : goal.returns
-returns c = decided-true (record { boat = c.if-departure-gt-BOAT_MOST.false; day = c.if-departure-gt-DAY_MOST.false; minute = c.if-departure-gt-MINUTE_MOST.false })
+returns c = decided-true (record {
+  boat = c.if-departure-gt-BOAT_MOST.false;
+  day = c.if-departure-gt-DAY_MOST.false;
+  minute = c.if-departure-gt-MINUTE_MOST.false;
+})

@@ -58,7 +58,8 @@ loop-steps-preserved c =
       rw c.product-result.ensures (times_bytes-below z _ _),
       rw c.product-base.ensures (times_bytes-below z _ _),
       shorter v.steps v.left c.loop-steps-test.true v.invariant.2,
-      power-next z v.result.value v.base.value v.left c.factor-factor.ensures c.product-result.ensures c.product-base.ensures ∙ v.invariant.3,
+      power-next z v.result.value v.base.value v.left c.factor-factor.ensures c.product-result.ensures c.product-base.ensures
+          ∙ v.invariant.3,
     )
 
 pub returns : goal.returns
@@ -66,4 +67,5 @@ returns c =
     let v = c.loop-steps in
     let steps : v.steps ≡ 0 = omega arith in
     let none : v.left ≡ 0 = omega (arith, rw steps at v.invariant.2) in
-    power-last c.requires.operand.size v.result.value v.base.value c.args.self.value c.args.exponent v.invariant.0 (rw none at v.invariant.3)
+    power-last c.requires.operand.size v.result.value v.base.value c.args.self.value c.args.exponent v.invariant.0
+    (rw none at v.invariant.3)

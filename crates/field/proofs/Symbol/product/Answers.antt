@@ -21,7 +21,11 @@ pub overflow_mul-x : goal.overflow_mul-x
 overflow_mul-x c = record { fits = fits _ (reducible-product _ _ (search rules) (search rules)) }
 
 pub reduce-requires : goal.reduce-requires
-reduce-requires c = record { size = c.requires.size; reciprocal = c.reciprocal-g.ensures; low = reducible-product _ _ (search rules) (search rules) }
+reduce-requires c = record {
+  size = c.requires.size;
+  reciprocal = c.reciprocal-g.ensures;
+  low = reducible-product _ _ (search rules) (search rules);
+}
 
 pub returns : goal.returns
 returns c =

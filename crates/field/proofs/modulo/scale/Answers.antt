@@ -15,19 +15,24 @@ loop-i-init c = (omega arith, refl, sym (scaled-zero _ _ _ _))
 
 pub overflow_cast-z : goal.overflow_cast-z
 overflow_cast-z c =
-    let x-below : (get_or c.loop-i.rows (c.args.at + c.loop-i.i) 0) < c.args.p = scaled-next-below c.requires.scales c.loop-i.i c.loop-i-test.true c.loop-i.invariant.2 in
+    let x-below : (get_or c.loop-i.rows (c.args.at + c.loop-i.i) 0) < c.args.p =
+    scaled-next-below c.requires.scales c.loop-i.i c.loop-i-test.true c.loop-i.invariant.2 in
     omega (arith, x-below)
 
 pub overflow_mul-z : goal.overflow_mul-z
 overflow_mul-z c =
-    let x-below : (get_or c.loop-i.rows (c.args.at + c.loop-i.i) 0) < c.args.p = scaled-next-below c.requires.scales c.loop-i.i c.loop-i-test.true c.loop-i.invariant.2 in
-    let product-small : c.args.c * (get_or c.loop-i.rows (c.args.at + c.loop-i.i) 0) ≤ 961 = small-product c.args.c (get_or c.loop-i.rows (c.args.at + c.loop-i.i) 0) (omega arith) (omega (arith, x-below)) in
+    let x-below : (get_or c.loop-i.rows (c.args.at + c.loop-i.i) 0) < c.args.p =
+    scaled-next-below c.requires.scales c.loop-i.i c.loop-i-test.true c.loop-i.invariant.2 in
+    let product-small : c.args.c * (get_or c.loop-i.rows (c.args.at + c.loop-i.i) 0) ≤ 961 =
+    small-product c.args.c (get_or c.loop-i.rows (c.args.at + c.loop-i.i) 0) (omega arith) (omega (arith, x-below)) in
     omega (arith, product-small)
 
 pub reduce-requires : goal.reduce-requires
 reduce-requires c =
-    let x-below : (get_or c.loop-i.rows (c.args.at + c.loop-i.i) 0) < c.args.p = scaled-next-below c.requires.scales c.loop-i.i c.loop-i-test.true c.loop-i.invariant.2 in
-    let product-small : c.args.c * (get_or c.loop-i.rows (c.args.at + c.loop-i.i) 0) ≤ 961 = small-product c.args.c (get_or c.loop-i.rows (c.args.at + c.loop-i.i) 0) (omega arith) (omega (arith, x-below)) in
+    let x-below : (get_or c.loop-i.rows (c.args.at + c.loop-i.i) 0) < c.args.p =
+    scaled-next-below c.requires.scales c.loop-i.i c.loop-i-test.true c.loop-i.invariant.2 in
+    let product-small : c.args.c * (get_or c.loop-i.rows (c.args.at + c.loop-i.i) 0) ≤ 961 =
+    small-product c.args.c (get_or c.loop-i.rows (c.args.at + c.loop-i.i) 0) (omega arith) (omega (arith, x-below)) in
     record {
       size = c.requires.scales.size;
       reciprocal = c.reciprocal-g.ensures;

@@ -14,32 +14,42 @@ loop-i-init c = (omega arith, omega arith, refl, sym (subtracted-zero _ _ _ _ _)
 
 pub overflow_cast-z : goal.overflow_cast-z
 overflow_cast-z c =
-    let x-below : (get_or c.loop-i.rows (c.args.to + c.loop-i.i) 0) < c.args.p = target-below c.requires.subtracts c.loop-i.i c.loop-i-test.true c.loop-i.invariant.3 in
+    let x-below : (get_or c.loop-i.rows (c.args.to + c.loop-i.i) 0) < c.args.p =
+    target-below c.requires.subtracts c.loop-i.i c.loop-i-test.true c.loop-i.invariant.3 in
     omega (arith, x-below)
 
 pub overflow_cast-z-in-loop-i : goal.overflow_cast-z-in-loop-i
 overflow_cast-z-in-loop-i c =
-    let y-below : (get_or c.loop-i.rows (c.args.from + c.loop-i.i) 0) < c.args.p = source-below c.requires.subtracts c.loop-i.i c.loop-i-test.true c.loop-i.invariant.3 in
+    let y-below : (get_or c.loop-i.rows (c.args.from + c.loop-i.i) 0) < c.args.p =
+    source-below c.requires.subtracts c.loop-i.i c.loop-i-test.true c.loop-i.invariant.3 in
     omega (arith, y-below)
 
 pub overflow_mul-z : goal.overflow_mul-z
 overflow_mul-z c =
-    let y-below : (get_or c.loop-i.rows (c.args.from + c.loop-i.i) 0) < c.args.p = source-below c.requires.subtracts c.loop-i.i c.loop-i-test.true c.loop-i.invariant.3 in
-    let product-small : (m : ℕ) → m ≤ 31 → m * (get_or c.loop-i.rows (c.args.from + c.loop-i.i) 0) ≤ 961 = λ m h. small-product m (get_or c.loop-i.rows (c.args.from + c.loop-i.i) 0) (omega arith) (omega (arith, y-below)) in
+    let y-below : (get_or c.loop-i.rows (c.args.from + c.loop-i.i) 0) < c.args.p =
+    source-below c.requires.subtracts c.loop-i.i c.loop-i-test.true c.loop-i.invariant.3 in
+    let product-small : (m : ℕ) → m ≤ 31 → m * (get_or c.loop-i.rows (c.args.from + c.loop-i.i) 0) ≤ 961 =
+    λ m h. small-product m (get_or c.loop-i.rows (c.args.from + c.loop-i.i) 0) (omega arith) (omega (arith, y-below)) in
     omega (arith, product-small _ c.loop-i.invariant.1)
 
 pub overflow_add-z-in-loop-i-2 : goal.overflow_add-z-in-loop-i-2
 overflow_add-z-in-loop-i-2 c =
-    let x-below : (get_or c.loop-i.rows (c.args.to + c.loop-i.i) 0) < c.args.p = target-below c.requires.subtracts c.loop-i.i c.loop-i-test.true c.loop-i.invariant.3 in
-    let y-below : (get_or c.loop-i.rows (c.args.from + c.loop-i.i) 0) < c.args.p = source-below c.requires.subtracts c.loop-i.i c.loop-i-test.true c.loop-i.invariant.3 in
-    let product-small : (m : ℕ) → m ≤ 31 → m * (get_or c.loop-i.rows (c.args.from + c.loop-i.i) 0) ≤ 961 = λ m h. small-product m (get_or c.loop-i.rows (c.args.from + c.loop-i.i) 0) (omega arith) (omega (arith, y-below)) in
+    let x-below : (get_or c.loop-i.rows (c.args.to + c.loop-i.i) 0) < c.args.p =
+    target-below c.requires.subtracts c.loop-i.i c.loop-i-test.true c.loop-i.invariant.3 in
+    let y-below : (get_or c.loop-i.rows (c.args.from + c.loop-i.i) 0) < c.args.p =
+    source-below c.requires.subtracts c.loop-i.i c.loop-i-test.true c.loop-i.invariant.3 in
+    let product-small : (m : ℕ) → m ≤ 31 → m * (get_or c.loop-i.rows (c.args.from + c.loop-i.i) 0) ≤ 961 =
+    λ m h. small-product m (get_or c.loop-i.rows (c.args.from + c.loop-i.i) 0) (omega arith) (omega (arith, y-below)) in
     omega (arith, product-small _ c.loop-i.invariant.1, x-below)
 
 pub reduce-requires : goal.reduce-requires
 reduce-requires c =
-    let x-below : (get_or c.loop-i.rows (c.args.to + c.loop-i.i) 0) < c.args.p = target-below c.requires.subtracts c.loop-i.i c.loop-i-test.true c.loop-i.invariant.3 in
-    let y-below : (get_or c.loop-i.rows (c.args.from + c.loop-i.i) 0) < c.args.p = source-below c.requires.subtracts c.loop-i.i c.loop-i-test.true c.loop-i.invariant.3 in
-    let product-small : (m : ℕ) → m ≤ 31 → m * (get_or c.loop-i.rows (c.args.from + c.loop-i.i) 0) ≤ 961 = λ m h. small-product m (get_or c.loop-i.rows (c.args.from + c.loop-i.i) 0) (omega arith) (omega (arith, y-below)) in
+    let x-below : (get_or c.loop-i.rows (c.args.to + c.loop-i.i) 0) < c.args.p =
+    target-below c.requires.subtracts c.loop-i.i c.loop-i-test.true c.loop-i.invariant.3 in
+    let y-below : (get_or c.loop-i.rows (c.args.from + c.loop-i.i) 0) < c.args.p =
+    source-below c.requires.subtracts c.loop-i.i c.loop-i-test.true c.loop-i.invariant.3 in
+    let product-small : (m : ℕ) → m ≤ 31 → m * (get_or c.loop-i.rows (c.args.from + c.loop-i.i) 0) ≤ 961 =
+    λ m h. small-product m (get_or c.loop-i.rows (c.args.from + c.loop-i.i) 0) (omega arith) (omega (arith, y-below)) in
     record {
       size = c.requires.subtracts.size;
       reciprocal = c.reciprocal-g.ensures;

@@ -13,7 +13,8 @@ loop-i-init c = (omega arith, refl, sym (scaled-zero _ _ _ _))
 
 pub product-requires : goal.product-requires
 product-requires c =
-    let x-below : get_or c.loop-i.rows (c.args.at + c.loop-i.i) 0 < 16 = scaled-next-below c.requires c.loop-i.i c.loop-i-test.true c.loop-i.invariant.2 in
+    let x-below : get_or c.loop-i.rows (c.args.at + c.loop-i.i) 0 < 16 =
+    scaled-next-below c.requires c.loop-i.i c.loop-i-test.true c.loop-i.invariant.2 in
     record { size = c.requires.size; left = c.requires.factor; right = x-below }
 
 pub loop-i-preserved : goal.loop-i-preserved

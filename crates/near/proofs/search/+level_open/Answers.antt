@@ -43,7 +43,10 @@ level-loop-c-preserved t c =
             w.open-found.auto.chosen w.open-found.ensures),
         low,
       )
-      | level-else-fits w ↦ (rw (w.curve-is, w.chosen-is, w.messages-is, w.found-is) (passed s g h (failing s g low fit w.if-fits.false)), low)
+      | level-else-fits w ↦ (
+        rw (w.curve-is, w.chosen-is, w.messages-is, w.found-is) (passed s g h (failing s g low fit w.if-fits.false)),
+        low,
+      )
     ]
 
 pub level-returns : goal.level-returns

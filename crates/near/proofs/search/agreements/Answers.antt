@@ -33,13 +33,15 @@ loop-s-preserved c =
         search rules,
         omega (arith, w.count-is),
         w.count-is
-            ∙ rw (add-one c.loop-s.s, c.loop-s.invariant.2) (sym (agrees c.requires.received c.requires.spelt h v w.if-value_at-word.true)),
+            ∙ rw (add-one c.loop-s.s, c.loop-s.invariant.2) (sym (agrees c.requires.received c.requires.spelt h v
+            w.if-value_at-word.true)),
       )
       | else-value_at-word w ↦ (
         search rules,
         omega (arith, w.count-is),
         w.count-is
-            ∙ rw (add-one c.loop-s.s) (c.loop-s.invariant.2 ∙ sym (differs c.requires.received c.requires.spelt h v w.if-value_at-word.false)),
+            ∙ rw (add-one c.loop-s.s) (c.loop-s.invariant.2 ∙ sym (differs c.requires.received c.requires.spelt h v
+            w.if-value_at-word.false)),
       )
     ]
 

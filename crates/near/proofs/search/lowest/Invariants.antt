@@ -11,7 +11,8 @@ use Rattle.near.proofs.search.LowestPower.{least-at}
 use Rattle.near.proofs.search.lowest.Given as goal
 
 abbrev pub invariant-loop-v : goal.invariant-loop-v
-invariant-loop-v l = (l.v ≤ suc l.shape.width) × ((q : ℕ) → q < l.v → some? (symbols l.shape.p) (suc l.shape.l) (slice_of l.shape l.curve l.i q) ≡ false)
+invariant-loop-v l = (l.v ≤ suc l.shape.width) × ((q : ℕ) → q < l.v → some? (symbols l.shape.p) (suc l.shape.l)
+    (slice_of l.shape l.curve l.i q) ≡ false)
 
 abbrev pub decreases-loop-v : goal.decreases-loop-v
 decreases-loop-v l = suc l.shape.width - l.v

@@ -11,7 +11,14 @@ pub loop-q-init : goal.loop-q-init
 loop-q-init c = (search rules, search rules, raised-none c.requires.tries.laid)
 
 pub take_above-requires : goal.take_above-requires
-take_above-requires c = record { tries = record { laid = c.loop-q.invariant.2.laid; next = c.requires.tries.next; small = c.requires.tries.small }; q_lt_l = search rules }
+take_above-requires c = record {
+  tries = record {
+    laid = c.loop-q.invariant.2.laid;
+    next = c.requires.tries.next;
+    small = c.requires.tries.small;
+  };
+  q_lt_l = search rules;
+}
 
 pub loop-q-preserved : goal.loop-q-preserved
 loop-q-preserved c = (

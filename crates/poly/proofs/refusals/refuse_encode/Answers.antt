@@ -41,25 +41,35 @@ pub returns-then-too_large : goal.returns-then-too_large
 returns-then-too_large c =
     let size : NotListed c.args.p → ⊥ = not_unlisted (is-listed (sym c.is_listed.ensures ∙ c.if-not-is_listed.false)) in
     let count : let s = c.args in BadCount s.p (length s.points.now) → ⊥ = λ b. ⊎_elim (λ w. omega arith) (λ w. omega arith) b in
-    let degree : let s = c.args in BadDegree (length s.points.now) (length s.message.now) → ⊥ = λ b. ⊎_elim (λ w. omega arith) (λ w. omega arith) b in
-    let after-4 : (n : ℕ) → let s = c.args in let table = encode_table s.p s.points.now s.message.now s.word.now in First (drop 3 table) n → First table n = λ n f. inr (size, inr (count, inr (degree, f))) in
+    let degree : let s =
+    c.args in BadDegree (length s.points.now) (length s.message.now) → ⊥ = λ b. ⊎_elim (λ w. omega arith) (λ w. omega arith) b in
+    let after-4 : (n : ℕ) → let s =
+    c.args in let table = encode_table s.p s.points.now s.message.now s.word.now in First (drop 3 table) n
+    → First table n = λ n f. inr (size, inr (count, inr (degree, f))) in
     after-4 6 (inl (inl (c.too_large.ensures.holds c.if-too_large.true), refl))
 
 pub returns-then-too_large-2 : goal.returns-then-too_large-2
 returns-then-too_large-2 c =
     let size : NotListed c.args.p → ⊥ = not_unlisted (is-listed (sym c.is_listed.ensures ∙ c.if-not-is_listed.false)) in
     let count : let s = c.args in BadCount s.p (length s.points.now) → ⊥ = λ b. ⊎_elim (λ w. omega arith) (λ w. omega arith) b in
-    let degree : let s = c.args in BadDegree (length s.points.now) (length s.message.now) → ⊥ = λ b. ⊎_elim (λ w. omega arith) (λ w. omega arith) b in
-    let after-4 : (n : ℕ) → let s = c.args in let table = encode_table s.p s.points.now s.message.now s.word.now in First (drop 3 table) n → First table n = λ n f. inr (size, inr (count, inr (degree, f))) in
+    let degree : let s =
+    c.args in BadDegree (length s.points.now) (length s.message.now) → ⊥ = λ b. ⊎_elim (λ w. omega arith) (λ w. omega arith) b in
+    let after-4 : (n : ℕ) → let s =
+    c.args in let table = encode_table s.p s.points.now s.message.now s.word.now in First (drop 3 table) n
+    → First table n = λ n f. inr (size, inr (count, inr (degree, f))) in
     after-4 6 (inl (inr (c.too_large-2.ensures.holds c.if-too_large-2.true), refl))
 
 pub returns-then-repeated : goal.returns-then-repeated
 returns-then-repeated c =
     let size : NotListed c.args.p → ⊥ = not_unlisted (is-listed (sym c.is_listed.ensures ∙ c.if-not-is_listed.false)) in
     let count : let s = c.args in BadCount s.p (length s.points.now) → ⊥ = λ b. ⊎_elim (λ w. omega arith) (λ w. omega arith) b in
-    let degree : let s = c.args in BadDegree (length s.points.now) (length s.message.now) → ⊥ = λ b. ⊎_elim (λ w. omega arith) (λ w. omega arith) b in
-    let after-4 : (n : ℕ) → let s = c.args in let table = encode_table s.p s.points.now s.message.now s.word.now in First (drop 3 table) n → First table n = λ n f. inr (size, inr (count, inr (degree, f))) in
-    let after-6 : (n : ℕ) → let s = c.args in let table = encode_table s.p s.points.now s.message.now s.word.now in First (drop 4 table) n → First table n = λ n f. after-4 n
+    let degree : let s =
+    c.args in BadDegree (length s.points.now) (length s.message.now) → ⊥ = λ b. ⊎_elim (λ w. omega arith) (λ w. omega arith) b in
+    let after-4 : (n : ℕ) → let s =
+    c.args in let table = encode_table s.p s.points.now s.message.now s.word.now in First (drop 3 table) n
+    → First table n = λ n f. inr (size, inr (count, inr (degree, f))) in
+    let after-6 : (n : ℕ) → let s = c.args in let table = encode_table s.p s.points.now s.message.now s.word.now in First (drop 4 table) n
+    → First table n = λ n f. after-4 n
     (inr (
       ⊎_elim (c.too_large.ensures.fails c.if-too_large.false) (c.too_large-2.ensures.fails
           c.if-too_large-2.false),
@@ -71,9 +81,13 @@ pub returns-then-word-n : goal.returns-then-word-n
 returns-then-word-n c =
     let size : NotListed c.args.p → ⊥ = not_unlisted (is-listed (sym c.is_listed.ensures ∙ c.if-not-is_listed.false)) in
     let count : let s = c.args in BadCount s.p (length s.points.now) → ⊥ = λ b. ⊎_elim (λ w. omega arith) (λ w. omega arith) b in
-    let degree : let s = c.args in BadDegree (length s.points.now) (length s.message.now) → ⊥ = λ b. ⊎_elim (λ w. omega arith) (λ w. omega arith) b in
-    let after-4 : (n : ℕ) → let s = c.args in let table = encode_table s.p s.points.now s.message.now s.word.now in First (drop 3 table) n → First table n = λ n f. inr (size, inr (count, inr (degree, f))) in
-    let after-6 : (n : ℕ) → let s = c.args in let table = encode_table s.p s.points.now s.message.now s.word.now in First (drop 4 table) n → First table n = λ n f. after-4 n
+    let degree : let s =
+    c.args in BadDegree (length s.points.now) (length s.message.now) → ⊥ = λ b. ⊎_elim (λ w. omega arith) (λ w. omega arith) b in
+    let after-4 : (n : ℕ) → let s =
+    c.args in let table = encode_table s.p s.points.now s.message.now s.word.now in First (drop 3 table) n
+    → First table n = λ n f. inr (size, inr (count, inr (degree, f))) in
+    let after-6 : (n : ℕ) → let s = c.args in let table = encode_table s.p s.points.now s.message.now s.word.now in First (drop 4 table) n
+    → First table n = λ n f. after-4 n
     (inr (
       ⊎_elim (c.too_large.ensures.fails c.if-too_large.false) (c.too_large-2.ensures.fails
           c.if-too_large-2.false),
@@ -85,9 +99,13 @@ pub returns : goal.returns
 returns c =
     let size : NotListed c.args.p → ⊥ = not_unlisted (is-listed (sym c.is_listed.ensures ∙ c.if-not-is_listed.false)) in
     let count : let s = c.args in BadCount s.p (length s.points.now) → ⊥ = λ b. ⊎_elim (λ w. omega arith) (λ w. omega arith) b in
-    let degree : let s = c.args in BadDegree (length s.points.now) (length s.message.now) → ⊥ = λ b. ⊎_elim (λ w. omega arith) (λ w. omega arith) b in
-    let after-4 : (n : ℕ) → let s = c.args in let table = encode_table s.p s.points.now s.message.now s.word.now in First (drop 3 table) n → First table n = λ n f. inr (size, inr (count, inr (degree, f))) in
-    let after-6 : (n : ℕ) → let s = c.args in let table = encode_table s.p s.points.now s.message.now s.word.now in First (drop 4 table) n → First table n = λ n f. after-4 n
+    let degree : let s =
+    c.args in BadDegree (length s.points.now) (length s.message.now) → ⊥ = λ b. ⊎_elim (λ w. omega arith) (λ w. omega arith) b in
+    let after-4 : (n : ℕ) → let s =
+    c.args in let table = encode_table s.p s.points.now s.message.now s.word.now in First (drop 3 table) n
+    → First table n = λ n f. inr (size, inr (count, inr (degree, f))) in
+    let after-6 : (n : ℕ) → let s = c.args in let table = encode_table s.p s.points.now s.message.now s.word.now in First (drop 4 table) n
+    → First table n = λ n f. after-4 n
     (inr (
       ⊎_elim (c.too_large.ensures.fails c.if-too_large.false) (c.too_large-2.ensures.fails
           c.if-too_large-2.false),

@@ -27,13 +27,18 @@ slice_bounds-h-end c = sym (length-take-le 32 c.args.work.now (omega (arith, c.r
 
 pub loop-i-init : goal.loop-i-init
 loop-i-init c =
-    let first : let a = c.args in RowsFilled a.shape (to_fill a.shape a.m (h_of a.work.now) (e_of a.work.now)) 0 a.rows.now c.clear.new.xs = filled-none (rw c.rows_bytes.ensures at c.clear.ensures) in
+    let first : let a =
+    c.args in RowsFilled a.shape (to_fill a.shape a.m (h_of a.work.now) (e_of a.work.now)) 0 a.rows.now c.clear.new.xs = filled-none
+    (rw c.rows_bytes.ensures at c.clear.ensures) in
     (search rules, filled-begins first)
 
 pub fill_low-requires : goal.fill_low-requires
 fill_low-requires c =
-    let first : let a = c.args in RowsFilled a.shape (to_fill a.shape a.m (h_of a.work.now) (e_of a.work.now)) 0 a.rows.now c.clear.new.xs = filled-none (rw c.rows_bytes.ensures at c.clear.ensures) in
-    let room : rows_bytes c.args.shape ≤ length c.loop-i.rows = omega (arith, c.loop-i.invariant.1.rest.long, first.rest.long, c.requires.room) in
+    let first : let a =
+    c.args in RowsFilled a.shape (to_fill a.shape a.m (h_of a.work.now) (e_of a.work.now)) 0 a.rows.now c.clear.new.xs = filled-none
+    (rw c.rows_bytes.ensures at c.clear.ensures) in
+    let room : rows_bytes c.args.shape ≤ length c.loop-i.rows =
+    omega (arith, c.loop-i.invariant.1.rest.long, first.rest.long, c.requires.room) in
     let v = c.loop-i.invariant.1 in
     let q = c.requires in
     record {
@@ -48,31 +53,42 @@ fill_low-requires c =
 
 pub raise_row-requires : goal.raise_row-requires
 raise_row-requires c =
-    let first : let a = c.args in RowsFilled a.shape (to_fill a.shape a.m (h_of a.work.now) (e_of a.work.now)) 0 a.rows.now c.clear.new.xs = filled-none (rw c.rows_bytes.ensures at c.clear.ensures) in
-    let room : rows_bytes c.args.shape ≤ length c.loop-i.rows = omega (arith, c.loop-i.invariant.1.rest.long, first.rest.long, c.requires.room) in
-    let raises : c.args.m < c.loop-i.i → RaisesRow c.args.shape c.loop-i.i c.loop-i.rows = λ k. record { fine = c.requires.fine; room = room; some = omega arith; inside = c.loop-i-test.true } in
+    let first : let a =
+    c.args in RowsFilled a.shape (to_fill a.shape a.m (h_of a.work.now) (e_of a.work.now)) 0 a.rows.now c.clear.new.xs = filled-none
+    (rw c.rows_bytes.ensures at c.clear.ensures) in
+    let room : rows_bytes c.args.shape ≤ length c.loop-i.rows =
+    omega (arith, c.loop-i.invariant.1.rest.long, first.rest.long, c.requires.room) in
+    let raises : c.args.m < c.loop-i.i → RaisesRow c.args.shape c.loop-i.i c.loop-i.rows =
+    λ k. record { fine = c.requires.fine; room = room; some = omega arith; inside = c.loop-i-test.true } in
     raises c.if-i-m.false
 
 pub loop-i-preserved : goal.loop-i-preserved
 loop-i-preserved c =
-    let first : let a = c.args in RowsFilled a.shape (to_fill a.shape a.m (h_of a.work.now) (e_of a.work.now)) 0 a.rows.now c.clear.new.xs = filled-none (rw c.rows_bytes.ensures at c.clear.ensures) in
-    let room : rows_bytes c.args.shape ≤ length c.loop-i.rows = omega (arith, c.loop-i.invariant.1.rest.long, first.rest.long, c.requires.room) in
-    let raises : c.args.m < c.loop-i.i → RaisesRow c.args.shape c.loop-i.i c.loop-i.rows = λ k. record { fine = c.requires.fine; room = room; some = omega arith; inside = c.loop-i-test.true } in
+    let first : let a =
+    c.args in RowsFilled a.shape (to_fill a.shape a.m (h_of a.work.now) (e_of a.work.now)) 0 a.rows.now c.clear.new.xs = filled-none
+    (rw c.rows_bytes.ensures at c.clear.ensures) in
+    let room : rows_bytes c.args.shape ≤ length c.loop-i.rows =
+    omega (arith, c.loop-i.invariant.1.rest.long, first.rest.long, c.requires.room) in
+    let raises : c.args.m < c.loop-i.i → RaisesRow c.args.shape c.loop-i.i c.loop-i.rows =
+    λ k. record { fine = c.requires.fine; room = room; some = omega arith; inside = c.loop-i-test.true } in
     let v = c.loop-i.invariant.1 in
     let a = c.args in
     let h = h_of a.work.now in
     let e = e_of a.work.now in (
       search rules,
       elim c.if-i-m.branch [
-        then-i-m w ↦ rw w.rows-is (filled-low a.shape a.m h e c.loop-i-test.true v w.fill_low.ensures)
-      | else-i-m w ↦ rw w.rows-is
-          (filled-high a.shape a.m h e c.loop-i-test.true v c.requires.fine.size w.if-i-m.false (raises w.if-i-m.false) w.raise_row.ensures)
+        | then-i-m w ↦ rw w.rows-is (filled-low a.shape a.m h e c.loop-i-test.true v w.fill_low.ensures)
+        | else-i-m w ↦ rw w.rows-is
+            (filled-high a.shape a.m h e c.loop-i-test.true v c.requires.fine.size w.if-i-m.false
+            (raises w.if-i-m.false) w.raise_row.ensures)
       ],
     )
 
 pub returns : goal.returns
 returns c =
-    let first : let a = c.args in RowsFilled a.shape (to_fill a.shape a.m (h_of a.work.now) (e_of a.work.now)) 0 a.rows.now c.clear.new.xs = filled-none (rw c.rows_bytes.ensures at c.clear.ensures) in
+    let first : let a =
+    c.args in RowsFilled a.shape (to_fill a.shape a.m (h_of a.work.now) (e_of a.work.now)) 0 a.rows.now c.clear.new.xs = filled-none
+    (rw c.rows_bytes.ensures at c.clear.ensures) in
     let v = c.loop-i.invariant.1 in
     let u = first.rest in
     (rw (take-rest 32 c.args.work.now) at (filled-all c.loop-i-test.false v), untouched-then u v.rest)

@@ -18,18 +18,24 @@ times_power-requires c = rw (c.curve_bytes.ensures, c.slot-slot.ensures) (one_fa
 
 pub loop-q-init : goal.loop-q-init
 loop-q-init c =
-    let first : let a = c.args in LowFilled a.shape a.i (a.m - a.i) 0 a.h.now a.e.now a.rows.now c.times_power.new.rows = low-one c.requires (rw (c.curve_bytes.ensures, c.slot-slot.ensures) at c.times_power.ensures) in
+    let first : let a =
+    c.args in LowFilled a.shape a.i (a.m - a.i) 0 a.h.now a.e.now a.rows.now c.times_power.new.rows = low-one c.requires (rw
+    (c.curve_bytes.ensures, c.slot-slot.ensures) at c.times_power.ensures) in
     (c.slot-slot.ensures, rw c.curve_bytes.ensures, search rules, low-begins c.requires first)
 
 pub times_y_less_h-requires : goal.times_y_less_h-requires
 times_y_less_h-requires c =
-    let first : let a = c.args in LowFilled a.shape a.i (a.m - a.i) 0 a.h.now a.e.now a.rows.now c.times_power.new.rows = low-one c.requires (rw (c.curve_bytes.ensures, c.slot-slot.ensures) at c.times_power.ensures) in
+    let first : let a =
+    c.args in LowFilled a.shape a.i (a.m - a.i) 0 a.h.now a.e.now a.rows.now c.times_power.new.rows = low-one c.requires (rw
+    (c.curve_bytes.ensures, c.slot-slot.ensures) at c.times_power.ensures) in
     let v = c.loop-q.invariant in
     rw (v.0, v.1) (low_factors c.requires first.kept.long v.3 c.loop-q-test.true)
 
 pub loop-q-preserved : goal.loop-q-preserved
 loop-q-preserved c =
-    let first : let a = c.args in LowFilled a.shape a.i (a.m - a.i) 0 a.h.now a.e.now a.rows.now c.times_power.new.rows = low-one c.requires (rw (c.curve_bytes.ensures, c.slot-slot.ensures) at c.times_power.ensures) in
+    let first : let a =
+    c.args in LowFilled a.shape a.i (a.m - a.i) 0 a.h.now a.e.now a.rows.now c.times_power.new.rows = low-one c.requires (rw
+    (c.curve_bytes.ensures, c.slot-slot.ensures) at c.times_power.ensures) in
     let v = c.loop-q.invariant in (
       v.0,
       v.1,
@@ -40,6 +46,8 @@ loop-q-preserved c =
 
 pub returns : goal.returns
 returns c =
-    let first : let a = c.args in LowFilled a.shape a.i (a.m - a.i) 0 a.h.now a.e.now a.rows.now c.times_power.new.rows = low-one c.requires (rw (c.curve_bytes.ensures, c.slot-slot.ensures) at c.times_power.ensures) in
+    let first : let a =
+    c.args in LowFilled a.shape a.i (a.m - a.i) 0 a.h.now a.e.now a.rows.now c.times_power.new.rows = low-one c.requires (rw
+    (c.curve_bytes.ensures, c.slot-slot.ensures) at c.times_power.ensures) in
     let e : c.loop-q.q ≡ c.args.i = omega arith in
     low-all c.requires first (rw e at c.loop-q.invariant.3)

@@ -13,12 +13,14 @@ use Rattle.rows.proofs.fill.raise_slot.Goals as goal
 
 pub multiply-requires : goal.multiply-requires
 multiply-requires c =
-    let factors : Factors c.args.p c.args.h.now (c.args.base + c.args.j * c.args.slot) c.args.slot c.args.rows.now = factors-part (c.args.j * c.args.slot) (omega arith) c.requires in
+    let factors : Factors c.args.p c.args.h.now (c.args.base + c.args.j * c.args.slot) c.args.slot c.args.rows.now =
+    factors-part (c.args.j * c.args.slot) (omega arith) c.requires in
     factors
 
 pub scale-requires : goal.scale-requires
 scale-requires c =
-    let factors : Factors c.args.p c.args.h.now (c.args.base + c.args.j * c.args.slot) c.args.slot c.args.rows.now = factors-part (c.args.j * c.args.slot) (omega arith) c.requires in
+    let factors : Factors c.args.p c.args.h.now (c.args.base + c.args.j * c.args.slot) c.args.slot c.args.rows.now =
+    factors-part (c.args.j * c.args.slot) (omega arith) c.requires in
     slot-scales c.requires.size c.negative-minus.ensures factors c.multiply.ensures
 
 pub overflow_sub-at : goal.overflow_sub-at
@@ -29,8 +31,10 @@ overflow_sub-at c =
 
 pub subtract-requires : goal.subtract-requires
 subtract-requires c =
-    let factors : Factors c.args.p c.args.h.now (c.args.base + c.args.j * c.args.slot) c.args.slot c.args.rows.now = factors-part (c.args.j * c.args.slot) (omega arith) c.requires in
-    let negated : Negated c.args.p c.args.h.now (c.args.base + c.args.j * c.args.slot) c.args.slot c.args.rows.now c.scale.new.rows = slot_negated c.requires.size c.negative-minus.ensures factors c.multiply.ensures c.scale.ensures in
+    let factors : Factors c.args.p c.args.h.now (c.args.base + c.args.j * c.args.slot) c.args.slot c.args.rows.now =
+    factors-part (c.args.j * c.args.slot) (omega arith) c.requires in
+    let negated : Negated c.args.p c.args.h.now (c.args.base + c.args.j * c.args.slot) c.args.slot c.args.rows.now c.scale.new.rows =
+    slot_negated c.requires.size c.negative-minus.ensures factors c.multiply.ensures c.scale.ensures in
     let under : let a = c.args in a.slot ≤ a.j * a.slot = let a = c.args in
     omega (arith, mul-le-mul_right a.slot c.if-j-gt0.true) in
     let a = c.args in
@@ -41,8 +45,10 @@ subtract-requires c =
 
 pub returns-then-j-gt0 : goal.returns-then-j-gt0
 returns-then-j-gt0 c =
-    let factors : Factors c.args.p c.args.h.now (c.args.base + c.args.j * c.args.slot) c.args.slot c.args.rows.now = factors-part (c.args.j * c.args.slot) (omega arith) c.requires in
-    let negated : Negated c.args.p c.args.h.now (c.args.base + c.args.j * c.args.slot) c.args.slot c.args.rows.now c.scale.new.rows = slot_negated c.requires.size c.negative-minus.ensures factors c.multiply.ensures c.scale.ensures in
+    let factors : Factors c.args.p c.args.h.now (c.args.base + c.args.j * c.args.slot) c.args.slot c.args.rows.now =
+    factors-part (c.args.j * c.args.slot) (omega arith) c.requires in
+    let negated : Negated c.args.p c.args.h.now (c.args.base + c.args.j * c.args.slot) c.args.slot c.args.rows.now c.scale.new.rows =
+    slot_negated c.requires.size c.negative-minus.ensures factors c.multiply.ensures c.scale.ensures in
     let under : let a = c.args in a.slot ≤ a.j * a.slot = let a = c.args in
     omega (arith, mul-le-mul_right a.slot c.if-j-gt0.true) in
     let a = c.args in
@@ -52,6 +58,8 @@ returns-then-j-gt0 c =
 
 pub returns-else-j-gt0 : goal.returns-else-j-gt0
 returns-else-j-gt0 c =
-    let factors : Factors c.args.p c.args.h.now (c.args.base + c.args.j * c.args.slot) c.args.slot c.args.rows.now = factors-part (c.args.j * c.args.slot) (omega arith) c.requires in
-    let negated : Negated c.args.p c.args.h.now (c.args.base + c.args.j * c.args.slot) c.args.slot c.args.rows.now c.scale.new.rows = slot_negated c.requires.size c.negative-minus.ensures factors c.multiply.ensures c.scale.ensures in
+    let factors : Factors c.args.p c.args.h.now (c.args.base + c.args.j * c.args.slot) c.args.slot c.args.rows.now =
+    factors-part (c.args.j * c.args.slot) (omega arith) c.requires in
+    let negated : Negated c.args.p c.args.h.now (c.args.base + c.args.j * c.args.slot) c.args.slot c.args.rows.now c.scale.new.rows =
+    slot_negated c.requires.size c.negative-minus.ensures factors c.multiply.ensures c.scale.ensures in
     raised-lowest c.requires.size c.negative-minus.ensures c.args.j negated (omega (arith, c.if-j-gt0.false))

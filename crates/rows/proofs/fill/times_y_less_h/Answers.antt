@@ -12,7 +12,11 @@ pub raise_slot-requires : goal.raise_slot-requires
 raise_slot-requires c = raising_factors c.requires.size c.loop-j-test.true c.loop-j.invariant.0 c.loop-j.invariant.1 c.requires
 
 pub loop-j-preserved : goal.loop-j-preserved
-loop-j-preserved c = (search rules, raising-more c.requires.size c.loop-j-test.true c.loop-j.invariant.0 c.loop-j.invariant.1 c.raise_slot.ensures)
+loop-j-preserved c = (
+  search rules,
+  raising-more c.requires.size c.loop-j-test.true c.loop-j.invariant.0 c.loop-j.invariant.1
+      c.raise_slot.ensures,
+)
 
 pub returns : goal.returns
 returns c =

@@ -18,23 +18,30 @@ slot-requires c = c.requires.fine
 
 pub overflow_mul-result-2 : goal.overflow_mul-result-2
 overflow_mul-result-2 c =
-    let at : c.args.i * c.curve_bytes.result + c.args.j * c.slot.result + c.args.e ≡ place_of c.args.shape c.args.i c.args.j c.args.e = ap₂ (λ (x y : ℕ). c.args.i * x + c.args.j * y + c.args.e) c.curve_bytes.ensures c.slot.ensures in
-    let small : c.args.i * c.curve_bytes.result + c.args.j * c.slot.result + c.args.e < rows_most = let p = c.requires in rw at (omega (arith, place-inside c.args.shape p.row p.power p.degree, rows-small p.fine)) in
+    let at : c.args.i * c.curve_bytes.result + c.args.j * c.slot.result + c.args.e ≡ place_of c.args.shape c.args.i c.args.j c.args.e =
+    ap₂ (λ (x y : ℕ). c.args.i * x + c.args.j * y + c.args.e) c.curve_bytes.ensures c.slot.ensures in
+    let small : c.args.i * c.curve_bytes.result + c.args.j * c.slot.result + c.args.e < rows_most =
+    let p = c.requires in rw at (omega (arith, place-inside c.args.shape p.row p.power p.degree, rows-small p.fine)) in
     omega (arith, small)
 
 pub overflow_add-result : goal.overflow_add-result
 overflow_add-result c =
-    let at : c.args.i * c.curve_bytes.result + c.args.j * c.slot.result + c.args.e ≡ place_of c.args.shape c.args.i c.args.j c.args.e = ap₂ (λ (x y : ℕ). c.args.i * x + c.args.j * y + c.args.e) c.curve_bytes.ensures c.slot.ensures in
-    let small : c.args.i * c.curve_bytes.result + c.args.j * c.slot.result + c.args.e < rows_most = let p = c.requires in rw at (omega (arith, place-inside c.args.shape p.row p.power p.degree, rows-small p.fine)) in
+    let at : c.args.i * c.curve_bytes.result + c.args.j * c.slot.result + c.args.e ≡ place_of c.args.shape c.args.i c.args.j c.args.e =
+    ap₂ (λ (x y : ℕ). c.args.i * x + c.args.j * y + c.args.e) c.curve_bytes.ensures c.slot.ensures in
+    let small : c.args.i * c.curve_bytes.result + c.args.j * c.slot.result + c.args.e < rows_most =
+    let p = c.requires in rw at (omega (arith, place-inside c.args.shape p.row p.power p.degree, rows-small p.fine)) in
     omega (arith, small)
 
 pub overflow_add-result-2 : goal.overflow_add-result-2
 overflow_add-result-2 c =
-    let at : c.args.i * c.curve_bytes.result + c.args.j * c.slot.result + c.args.e ≡ place_of c.args.shape c.args.i c.args.j c.args.e = ap₂ (λ (x y : ℕ). c.args.i * x + c.args.j * y + c.args.e) c.curve_bytes.ensures c.slot.ensures in
-    let small : c.args.i * c.curve_bytes.result + c.args.j * c.slot.result + c.args.e < rows_most = let p = c.requires in rw at (omega (arith, place-inside c.args.shape p.row p.power p.degree, rows-small p.fine)) in
+    let at : c.args.i * c.curve_bytes.result + c.args.j * c.slot.result + c.args.e ≡ place_of c.args.shape c.args.i c.args.j c.args.e =
+    ap₂ (λ (x y : ℕ). c.args.i * x + c.args.j * y + c.args.e) c.curve_bytes.ensures c.slot.ensures in
+    let small : c.args.i * c.curve_bytes.result + c.args.j * c.slot.result + c.args.e < rows_most =
+    let p = c.requires in rw at (omega (arith, place-inside c.args.shape p.row p.power p.degree, rows-small p.fine)) in
     omega (arith, small)
 
 pub returns : goal.returns
 returns c =
-    let at : c.args.i * c.curve_bytes.result + c.args.j * c.slot.result + c.args.e ≡ place_of c.args.shape c.args.i c.args.j c.args.e = ap₂ (λ (x y : ℕ). c.args.i * x + c.args.j * y + c.args.e) c.curve_bytes.ensures c.slot.ensures in
+    let at : c.args.i * c.curve_bytes.result + c.args.j * c.slot.result + c.args.e ≡ place_of c.args.shape c.args.i c.args.j c.args.e =
+    ap₂ (λ (x y : ℕ). c.args.i * x + c.args.j * y + c.args.e) c.curve_bytes.ensures c.slot.ensures in
     at

@@ -44,15 +44,23 @@ overflow_mul-lift c =
 pub overflow_mul-j : goal.overflow_mul-j
 overflow_mul-j c =
     let low : (c.loop-j.j - 1) ≤ c.args.shape.l = let h = c.loop-j.invariant.2 in omega arith in
-    let at : (c.args.i * c.curve_bytes.result) + (c.loop-j.j - 1) * c.slot-slot.result ≡ c.args.i * curve_bytes c.args.shape + (c.loop-j.j - 1) * slot_of c.args.shape = ap₂ (λ (x y : ℕ). c.args.i * x + (c.loop-j.j - 1) * y) c.curve_bytes.ensures c.slot-slot.ensures in
-    let inside : (c.args.i * c.curve_bytes.result) + (c.loop-j.j - 1) * c.slot-slot.result + (c.args.shape.width - c.args.shape.u * (c.loop-j.j - 1)) < rows_bytes c.args.shape = rw at (place-inside c.args.shape c.requires.1.0 low (omega arith)) in
+    let at : (c.args.i * c.curve_bytes.result) + (c.loop-j.j - 1) * c.slot-slot.result
+    ≡ c.args.i * curve_bytes c.args.shape + (c.loop-j.j - 1) * slot_of c.args.shape =
+    ap₂ (λ (x y : ℕ). c.args.i * x + (c.loop-j.j - 1) * y) c.curve_bytes.ensures c.slot-slot.ensures in
+    let inside : (c.args.i * c.curve_bytes.result) + (c.loop-j.j - 1) * c.slot-slot.result + (c.args.shape.width - c.args.shape.u *
+    (c.loop-j.j - 1)) < rows_bytes c.args.shape =
+    rw at (place-inside c.args.shape c.requires.1.0 low (omega arith)) in
     omega (arith, inside, rows-small c.requires.0.fine)
 
 pub overflow_add-base : goal.overflow_add-base
 overflow_add-base c =
     let low : (c.loop-j.j - 1) ≤ c.args.shape.l = let h = c.loop-j.invariant.2 in omega arith in
-    let at : (c.args.i * c.curve_bytes.result) + (c.loop-j.j - 1) * c.slot-slot.result ≡ c.args.i * curve_bytes c.args.shape + (c.loop-j.j - 1) * slot_of c.args.shape = ap₂ (λ (x y : ℕ). c.args.i * x + (c.loop-j.j - 1) * y) c.curve_bytes.ensures c.slot-slot.ensures in
-    let inside : (c.args.i * c.curve_bytes.result) + (c.loop-j.j - 1) * c.slot-slot.result + (c.args.shape.width - c.args.shape.u * (c.loop-j.j - 1)) < rows_bytes c.args.shape = rw at (place-inside c.args.shape c.requires.1.0 low (omega arith)) in
+    let at : (c.args.i * c.curve_bytes.result) + (c.loop-j.j - 1) * c.slot-slot.result
+    ≡ c.args.i * curve_bytes c.args.shape + (c.loop-j.j - 1) * slot_of c.args.shape =
+    ap₂ (λ (x y : ℕ). c.args.i * x + (c.loop-j.j - 1) * y) c.curve_bytes.ensures c.slot-slot.ensures in
+    let inside : (c.args.i * c.curve_bytes.result) + (c.loop-j.j - 1) * c.slot-slot.result + (c.args.shape.width - c.args.shape.u *
+    (c.loop-j.j - 1)) < rows_bytes c.args.shape =
+    rw at (place-inside c.args.shape c.requires.1.0 low (omega arith)) in
     omega (arith, inside, rows-small c.requires.0.fine)
 
 pub overflow_sub-shape : goal.overflow_sub-shape
@@ -64,8 +72,12 @@ overflow_sub-shape c =
 pub size_to-size-requires : goal.size_to-size-requires
 size_to-size-requires c =
     let low : (c.loop-j.j - 1) ≤ c.args.shape.l = let h = c.loop-j.invariant.2 in omega arith in
-    let at : (c.args.i * c.curve_bytes.result) + (c.loop-j.j - 1) * c.slot-slot.result ≡ c.args.i * curve_bytes c.args.shape + (c.loop-j.j - 1) * slot_of c.args.shape = ap₂ (λ (x y : ℕ). c.args.i * x + (c.loop-j.j - 1) * y) c.curve_bytes.ensures c.slot-slot.ensures in
-    let inside : (c.args.i * c.curve_bytes.result) + (c.loop-j.j - 1) * c.slot-slot.result + (c.args.shape.width - c.args.shape.u * (c.loop-j.j - 1)) < rows_bytes c.args.shape = rw at (place-inside c.args.shape c.requires.1.0 low (omega arith)) in
+    let at : (c.args.i * c.curve_bytes.result) + (c.loop-j.j - 1) * c.slot-slot.result
+    ≡ c.args.i * curve_bytes c.args.shape + (c.loop-j.j - 1) * slot_of c.args.shape =
+    ap₂ (λ (x y : ℕ). c.args.i * x + (c.loop-j.j - 1) * y) c.curve_bytes.ensures c.slot-slot.ensures in
+    let inside : (c.args.i * c.curve_bytes.result) + (c.loop-j.j - 1) * c.slot-slot.result + (c.args.shape.width - c.args.shape.u *
+    (c.loop-j.j - 1)) < rows_bytes c.args.shape =
+    rw at (place-inside c.args.shape c.requires.1.0 low (omega arith)) in
     omega (arith, inside, c.requires.0.room)
 
 pub heavier-found-requires : goal.heavier-found-requires
@@ -77,11 +89,14 @@ heavier-found-requires c =
 pub loop-j-preserved : goal.loop-j-preserved
 loop-j-preserved c =
     let low : (c.loop-j.j - 1) ≤ c.args.shape.l = let h = c.loop-j.invariant.2 in omega arith in
-    let at : (c.args.i * c.curve_bytes.result) + (c.loop-j.j - 1) * c.slot-slot.result ≡ c.args.i * curve_bytes c.args.shape + (c.loop-j.j - 1) * slot_of c.args.shape = ap₂ (λ (x y : ℕ). c.args.i * x + (c.loop-j.j - 1) * y) c.curve_bytes.ensures c.slot-slot.ensures in
+    let at : (c.args.i * c.curve_bytes.result) + (c.loop-j.j - 1) * c.slot-slot.result
+    ≡ c.args.i * curve_bytes c.args.shape + (c.loop-j.j - 1) * slot_of c.args.shape =
+    ap₂ (λ (x y : ℕ). c.args.i * x + (c.loop-j.j - 1) * y) c.curve_bytes.ensures c.slot-slot.ensures in
     let v = c.loop-j.invariant in
     let e : c.loop-j.j ≡ suc ((c.loop-j.j - 1)) = omega arith in
     let p = c.requires in
-    let z : SizeTo c.args.rows.now (c.args.i * curve_bytes c.args.shape + (c.loop-j.j - 1) * slot_of c.args.shape) (c.args.shape.width - c.args.shape.u * (c.loop-j.j - 1))
+    let z : SizeTo c.args.rows.now (c.args.i * curve_bytes c.args.shape + (c.loop-j.j - 1) * slot_of c.args.shape)
+    (c.args.shape.width - c.args.shape.u * (c.loop-j.j - 1))
     c.size_to-size.result = rw at at c.size_to-size.ensures in (
       v.0,
       v.1,

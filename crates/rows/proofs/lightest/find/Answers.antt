@@ -24,22 +24,31 @@ pub row_lead-first-requires : goal.row_lead-first-requires
 row_lead-first-requires c = let w = c.requires in (w.bytes, (omega arith, light w (omega arith)))
 
 pub loop-i-init : goal.loop-i-init
-loop-i-init c = (0, refl, omega arith, lightest-one _ (found-own c.row_lead-first.ensures (c.requires.sound.own 0 (omega arith) (omega arith))))
+loop-i-init c = (
+  0,
+  refl,
+  omega arith,
+  lightest-one _ (found-own c.row_lead-first.ensures (c.requires.sound.own 0 (omega arith)
+      (omega arith))),
+)
 
 pub row_lead-lead-requires : goal.row_lead-lead-requires
 row_lead-lead-requires c = let w = c.requires in (w.bytes, (omega arith, light w (omega arith)))
 
 pub loop-i-preserved : goal.loop-i-preserved
 loop-i-preserved c =
-    let lead : let a = c.args in Lead (symbols a.shape.p).ring a.shape.u c.row_lead-lead.result.weight c.loop-i.i (rows_of a.shape a.rows.now c.loop-i.i) = found-own c.row_lead-lead.ensures (c.requires.sound.own c.loop-i.i (omega arith) (omega arith)) in
+    let lead : let a =
+    c.args in Lead (symbols a.shape.p).ring a.shape.u c.row_lead-lead.result.weight c.loop-i.i
+    (rows_of a.shape a.rows.now c.loop-i.i) = found-own c.row_lead-lead.ensures (c.requires.sound.own c.loop-i.i (omega arith)
+    (omega arith)) in
     let v = c.loop-i.invariant in
     let p = rw v.1 at lead in (
       suc v.0,
       omega arith,
       omega arith,
       elim c.if-lead-weight.branch [
-        then-lead-weight w ↦ rw (w.row-is, w.weight-is, v.1) (lightest-new v.3 p w.if-lead-weight.true)
-      | else-lead-weight w ↦ rw (w.row-is, w.weight-is) (lightest-stays v.3 p w.if-lead-weight.false)
+        | then-lead-weight w ↦ rw (w.row-is, w.weight-is, v.1) (lightest-new v.3 p w.if-lead-weight.true)
+        | else-lead-weight w ↦ rw (w.row-is, w.weight-is) (lightest-stays v.3 p w.if-lead-weight.false)
       ],
     )
 

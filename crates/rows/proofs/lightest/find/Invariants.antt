@@ -16,7 +16,8 @@ use Rattle.rows.proofs.leading.Finding.{found-own}
 use Rattle.rows.proofs.lightest.find.Given as goal
 
 abbrev pub invariant-loop-i : goal.invariant-loop-i
-invariant-loop-i l = (n : ℕ) × (l.i ≡ suc n) × (n ≤ l.shape.l) × Lightest (symbols l.shape.p).ring l.shape.u n (rows_of l.shape l.rows) l.row l.weight
+invariant-loop-i l = (n : ℕ) × (l.i ≡ suc n) × (n ≤ l.shape.l) × Lightest (symbols l.shape.p).ring l.shape.u n
+    (rows_of l.shape l.rows) l.row l.weight
 
 abbrev pub decreases-loop-i : goal.decreases-loop-i
 decreases-loop-i l = suc l.shape.l - l.i

@@ -10,17 +10,22 @@ use Rattle.rows.proofs.lightest.hand_over.Goals as goal
 
 pub overflow_mul-row : goal.overflow_mul-row
 overflow_mul-row c =
-    let within : (c.args.row * c.curve_bytes-len.result + c.curve_bytes-len.result ≤ length c.args.rows.now) × (c.args.row * c.curve_bytes-len.result + c.curve_bytes-len.result ≤ rows_most) = row-within c.requires.bytes c.requires.inside c.curve_bytes-len.ensures in
+    let within : (c.args.row * c.curve_bytes-len.result + c.curve_bytes-len.result ≤ length c.args.rows.now)
+    × (c.args.row * c.curve_bytes-len.result + c.curve_bytes-len.result ≤ rows_most) =
+    row-within c.requires.bytes c.requires.inside c.curve_bytes-len.ensures in
     omega (arith, within)
 
 pub copy_from-requires : goal.copy_from-requires
 copy_from-requires c =
-    let within : (c.args.row * c.curve_bytes-len.result + c.curve_bytes-len.result ≤ length c.args.rows.now) × (c.args.row * c.curve_bytes-len.result + c.curve_bytes-len.result ≤ rows_most) = row-within c.requires.bytes c.requires.inside c.curve_bytes-len.ensures in
+    let within : (c.args.row * c.curve_bytes-len.result + c.curve_bytes-len.result ≤ length c.args.rows.now)
+    × (c.args.row * c.curve_bytes-len.result + c.curve_bytes-len.result ≤ rows_most) =
+    row-within c.requires.bytes c.requires.inside c.curve_bytes-len.ensures in
     (omega (arith, c.curve_bytes-len.ensures, c.requires.room), omega (arith, within))
 
 pub bounds-rows-at : goal.bounds-rows-at
 bounds-rows-at c =
-    let inside : c.place-at.result < length c.args.rows.now = omega (arith, c.place-at.ensures, lead-inside c.requires, c.requires.bytes.room) in
+    let inside : c.place-at.result < length c.args.rows.now =
+    omega (arith, c.place-at.ensures, lead-inside c.requires, c.requires.bytes.room) in
     inside
 
 pub inverse-inverse-requires : goal.inverse-inverse-requires

@@ -47,7 +47,8 @@ curve_bytes-requires c =
 pub returns-then-curve-curve_bytes : goal.returns-then-curve-curve_bytes
 returns-then-curve-curve_bytes c =
     let passed : BadNote c.args.note → ⊥ = c.bad_note.ensures.fails c.if-bad_note.false in
-    let curve-size : c.curve_bytes.result ≡ curve_bytes (shape_of c.args.note) = c.curve_bytes.ensures ∙ ap curve_bytes c.of-shape.ensures in
+    let curve-size : c.curve_bytes.result ≡ curve_bytes (shape_of c.args.note) =
+    c.curve_bytes.ensures ∙ ap curve_bytes c.of-shape.ensures in
     inr (passed, inl (inr (omega (arith, c.if-curve-curve_bytes.true, curve-size)), refl))
 
 pub overflow_add-note : goal.overflow_add-note
@@ -59,11 +60,16 @@ overflow_add-note c =
 pub returns-then-note : goal.returns-then-note
 returns-then-note c =
     let passed : BadNote c.args.note → ⊥ = c.bad_note.ensures.fails c.if-bad_note.false in
-    let curve-size : c.curve_bytes.result ≡ curve_bytes (shape_of c.args.note) = c.curve_bytes.ensures ∙ ap curve_bytes c.of-shape.ensures in
+    let curve-size : c.curve_bytes.result ≡ curve_bytes (shape_of c.args.note) =
+    c.curve_bytes.ensures ∙ ap curve_bytes c.of-shape.ensures in
     let rows-size : c.rows_bytes.result ≡ rows_bytes (shape_of c.args.note) = c.rows_bytes.ensures ∙ ap rows_bytes c.of-shape.ensures in
     let room : rows_bytes (shape_of c.args.note) ≤ length c.args.rows.now = omega (arith, c.if-rows-rows_bytes.false, rows-size) in
-    let long : TooShort (rows_bytes (shape_of c.args.note)) c.args.rows.now ⊎ TooShort (curve_bytes (shape_of c.args.note)) c.args.curve.now → ⊥ = ⊎_elim (λ h. omega (arith, room)) (λ h. omega (arith, c.if-curve-curve_bytes.false, curve-size)) in
-    let after_9 : (n : ℕ) → let table = finish_table c.args.note c.args.rows.now c.args.curve.now in First (drop 2 table) n → First table n = λ n f. inr (passed, inr (long, f)) in
+    let long : TooShort (rows_bytes (shape_of c.args.note)) c.args.rows.now ⊎ TooShort (curve_bytes
+    (shape_of c.args.note)) c.args.curve.now → ⊥ =
+    ⊎_elim (λ h. omega (arith, room)) (λ h. omega (arith, c.if-curve-curve_bytes.false, curve-size)) in
+    let after_9 : (n : ℕ) → let table =
+    finish_table c.args.note c.args.rows.now c.args.curve.now in First (drop 2 table) n
+    → First table n = λ n f. inr (passed, inr (long, f)) in
     after_9 12 (inl (omega (arith, c.if-note.true), refl))
 
 pub sound-requires : goal.sound-requires
@@ -81,25 +87,37 @@ sound-requires c =
 pub returns-then-not-sound : goal.returns-then-not-sound
 returns-then-not-sound c =
     let passed : BadNote c.args.note → ⊥ = c.bad_note.ensures.fails c.if-bad_note.false in
-    let curve-size : c.curve_bytes.result ≡ curve_bytes (shape_of c.args.note) = c.curve_bytes.ensures ∙ ap curve_bytes c.of-shape.ensures in
+    let curve-size : c.curve_bytes.result ≡ curve_bytes (shape_of c.args.note) =
+    c.curve_bytes.ensures ∙ ap curve_bytes c.of-shape.ensures in
     let rows-size : c.rows_bytes.result ≡ rows_bytes (shape_of c.args.note) = c.rows_bytes.ensures ∙ ap rows_bytes c.of-shape.ensures in
     let room : rows_bytes (shape_of c.args.note) ≤ length c.args.rows.now = omega (arith, c.if-rows-rows_bytes.false, rows-size) in
-    let long : TooShort (rows_bytes (shape_of c.args.note)) c.args.rows.now ⊎ TooShort (curve_bytes (shape_of c.args.note)) c.args.curve.now → ⊥ = ⊎_elim (λ h. omega (arith, room)) (λ h. omega (arith, c.if-curve-curve_bytes.false, curve-size)) in
-    let after_9 : (n : ℕ) → let table = finish_table c.args.note c.args.rows.now c.args.curve.now in First (drop 2 table) n → First table n = λ n f. inr (passed, inr (long, f)) in
+    let long : TooShort (rows_bytes (shape_of c.args.note)) c.args.rows.now ⊎ TooShort (curve_bytes
+    (shape_of c.args.note)) c.args.curve.now → ⊥ =
+    ⊎_elim (λ h. omega (arith, room)) (λ h. omega (arith, c.if-curve-curve_bytes.false, curve-size)) in
+    let after_9 : (n : ℕ) → let table =
+    finish_table c.args.note c.args.rows.now c.args.curve.now in First (drop 2 table) n
+    → First table n = λ n f. inr (passed, inr (long, f)) in
     let ended : (c).args.note.r < suc (c).args.note.l → ⊥ = λ h. omega (arith, c.if-note.false) in
-    let test : Decided c.sound.result (AsLeft (shape_of (c).args.note) (c).args.note.r (c).args.rows.now) = subst (λ (S : Shape). Decided c.sound.result (AsLeft S (c).args.note.r (c).args.rows.now))
+    let test : Decided c.sound.result (AsLeft (shape_of (c).args.note) (c).args.note.r (c).args.rows.now) = subst (λ
+    (S : Shape). Decided c.sound.result (AsLeft S (c).args.note.r (c).args.rows.now))
     c.of-shape.ensures c.sound.ensures in
     after_9 11 (inr (ended, inl (test.fails c.if-not-sound.true, refl)))
 
 pub returns : goal.returns
 returns c =
     let passed : BadNote c.args.note → ⊥ = c.bad_note.ensures.fails c.if-bad_note.false in
-    let curve-size : c.curve_bytes.result ≡ curve_bytes (shape_of c.args.note) = c.curve_bytes.ensures ∙ ap curve_bytes c.of-shape.ensures in
+    let curve-size : c.curve_bytes.result ≡ curve_bytes (shape_of c.args.note) =
+    c.curve_bytes.ensures ∙ ap curve_bytes c.of-shape.ensures in
     let rows-size : c.rows_bytes.result ≡ rows_bytes (shape_of c.args.note) = c.rows_bytes.ensures ∙ ap rows_bytes c.of-shape.ensures in
     let room : rows_bytes (shape_of c.args.note) ≤ length c.args.rows.now = omega (arith, c.if-rows-rows_bytes.false, rows-size) in
-    let long : TooShort (rows_bytes (shape_of c.args.note)) c.args.rows.now ⊎ TooShort (curve_bytes (shape_of c.args.note)) c.args.curve.now → ⊥ = ⊎_elim (λ h. omega (arith, room)) (λ h. omega (arith, c.if-curve-curve_bytes.false, curve-size)) in
-    let after_9 : (n : ℕ) → let table = finish_table c.args.note c.args.rows.now c.args.curve.now in First (drop 2 table) n → First table n = λ n f. inr (passed, inr (long, f)) in
+    let long : TooShort (rows_bytes (shape_of c.args.note)) c.args.rows.now ⊎ TooShort (curve_bytes
+    (shape_of c.args.note)) c.args.curve.now → ⊥ =
+    ⊎_elim (λ h. omega (arith, room)) (λ h. omega (arith, c.if-curve-curve_bytes.false, curve-size)) in
+    let after_9 : (n : ℕ) → let table =
+    finish_table c.args.note c.args.rows.now c.args.curve.now in First (drop 2 table) n
+    → First table n = λ n f. inr (passed, inr (long, f)) in
     let ended : (c).args.note.r < suc (c).args.note.l → ⊥ = λ h. omega (arith, c.if-note.false) in
-    let test : Decided c.sound.result (AsLeft (shape_of (c).args.note) (c).args.note.r (c).args.rows.now) = subst (λ (S : Shape). Decided c.sound.result (AsLeft S (c).args.note.r (c).args.rows.now))
+    let test : Decided c.sound.result (AsLeft (shape_of (c).args.note) (c).args.note.r (c).args.rows.now) = subst (λ
+    (S : Shape). Decided c.sound.result (AsLeft S (c).args.note.r (c).args.rows.now))
     c.of-shape.ensures c.sound.ensures in
     after_9 0 (inr (ended, inr (λ n. n (test.holds c.if-not-sound.false), refl)))

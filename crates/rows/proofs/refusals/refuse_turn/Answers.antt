@@ -52,7 +52,8 @@ returns-then-not-sound c =
     let passed : BadNote c.args.note → ⊥ = c.bad_note.ensures.fails c.if-bad_note.false in
     let size : c.rows_bytes.result ≡ rows_bytes (shape_of c.args.note) = c.rows_bytes.ensures ∙ ap rows_bytes c.of-shape.ensures in
     let long : TooShort (rows_bytes (shape_of c.args.note)) c.args.rows.now → ⊥ = λ h. omega (arith, c.if-rows-rows_bytes.false, size) in
-    let test : Decided c.sound.result (AsLeft (shape_of c.args.note) c.args.note.r c.args.rows.now) = subst (λ (S : Shape). Decided c.sound.result (AsLeft S c.args.note.r c.args.rows.now)) {y = shape_of c.args.note}
+    let test : Decided c.sound.result (AsLeft (shape_of c.args.note) c.args.note.r c.args.rows.now) = subst (λ
+    (S : Shape). Decided c.sound.result (AsLeft S c.args.note.r c.args.rows.now)) {y = shape_of c.args.note}
     c.of-shape.ensures c.sound.ensures in
     inr (passed, inr (long, inl (test.fails c.if-not-sound.true, refl)))
 
@@ -61,6 +62,7 @@ returns c =
     let passed : BadNote c.args.note → ⊥ = c.bad_note.ensures.fails c.if-bad_note.false in
     let size : c.rows_bytes.result ≡ rows_bytes (shape_of c.args.note) = c.rows_bytes.ensures ∙ ap rows_bytes c.of-shape.ensures in
     let long : TooShort (rows_bytes (shape_of c.args.note)) c.args.rows.now → ⊥ = λ h. omega (arith, c.if-rows-rows_bytes.false, size) in
-    let test : Decided c.sound.result (AsLeft (shape_of c.args.note) c.args.note.r c.args.rows.now) = subst (λ (S : Shape). Decided c.sound.result (AsLeft S c.args.note.r c.args.rows.now)) {y = shape_of c.args.note}
+    let test : Decided c.sound.result (AsLeft (shape_of c.args.note) c.args.note.r c.args.rows.now) = subst (λ
+    (S : Shape). Decided c.sound.result (AsLeft S c.args.note.r c.args.rows.now)) {y = shape_of c.args.note}
     c.of-shape.ensures c.sound.ensures in
     inr (passed, inr (long, inr (λ n. n (test.holds c.if-not-sound.false), refl)))

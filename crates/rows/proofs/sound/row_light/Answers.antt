@@ -31,23 +31,32 @@ loop-j-init c = (omega arith, λ t h. absurd (omega arith))
 
 pub overflow_mul-end : goal.overflow_mul-end
 overflow_mul-end c =
-    let at : (c.args.i * c.curve_bytes.result + c.loop-j.j * c.slot-slot.result + c.slot-slot.result) ≡ c.args.i * curve_bytes c.args.shape + c.loop-j.j * slot_of c.args.shape + slot_of c.args.shape = ap₂ (λ (x y : ℕ). c.args.i * x + c.loop-j.j * y + y) c.curve_bytes.ensures
+    let at : (c.args.i * c.curve_bytes.result + c.loop-j.j * c.slot-slot.result + c.slot-slot.result)
+    ≡ c.args.i * curve_bytes c.args.shape + c.loop-j.j * slot_of c.args.shape + slot_of c.args.shape = ap₂ (λ
+    (x y : ℕ). c.args.i * x + c.loop-j.j * y + y) c.curve_bytes.ensures
     c.slot-slot.ensures in
-    let inside : (c.args.i * c.curve_bytes.result + c.loop-j.j * c.slot-slot.result + c.slot-slot.result) ≤ rows_bytes c.args.shape = rw at (omega (arith, row-end c.args.shape c.requires.1, slot-end c.args.shape c.loop-j-test.true)) in
+    let inside : (c.args.i * c.curve_bytes.result + c.loop-j.j * c.slot-slot.result + c.slot-slot.result) ≤ rows_bytes c.args.shape =
+    rw at (omega (arith, row-end c.args.shape c.requires.1, slot-end c.args.shape c.loop-j-test.true)) in
     omega (arith, inside, rows-small c.requires.0.fine)
 
 pub overflow_add-end : goal.overflow_add-end
 overflow_add-end c =
-    let at : (c.args.i * c.curve_bytes.result + c.loop-j.j * c.slot-slot.result + c.slot-slot.result) ≡ c.args.i * curve_bytes c.args.shape + c.loop-j.j * slot_of c.args.shape + slot_of c.args.shape = ap₂ (λ (x y : ℕ). c.args.i * x + c.loop-j.j * y + y) c.curve_bytes.ensures
+    let at : (c.args.i * c.curve_bytes.result + c.loop-j.j * c.slot-slot.result + c.slot-slot.result)
+    ≡ c.args.i * curve_bytes c.args.shape + c.loop-j.j * slot_of c.args.shape + slot_of c.args.shape = ap₂ (λ
+    (x y : ℕ). c.args.i * x + c.loop-j.j * y + y) c.curve_bytes.ensures
     c.slot-slot.ensures in
-    let inside : (c.args.i * c.curve_bytes.result + c.loop-j.j * c.slot-slot.result + c.slot-slot.result) ≤ rows_bytes c.args.shape = rw at (omega (arith, row-end c.args.shape c.requires.1, slot-end c.args.shape c.loop-j-test.true)) in
+    let inside : (c.args.i * c.curve_bytes.result + c.loop-j.j * c.slot-slot.result + c.slot-slot.result) ≤ rows_bytes c.args.shape =
+    rw at (omega (arith, row-end c.args.shape c.requires.1, slot-end c.args.shape c.loop-j-test.true)) in
     omega (arith, inside, rows-small c.requires.0.fine)
 
 pub overflow_add-end-in-loop-j : goal.overflow_add-end-in-loop-j
 overflow_add-end-in-loop-j c =
-    let at : (c.args.i * c.curve_bytes.result + c.loop-j.j * c.slot-slot.result + c.slot-slot.result) ≡ c.args.i * curve_bytes c.args.shape + c.loop-j.j * slot_of c.args.shape + slot_of c.args.shape = ap₂ (λ (x y : ℕ). c.args.i * x + c.loop-j.j * y + y) c.curve_bytes.ensures
+    let at : (c.args.i * c.curve_bytes.result + c.loop-j.j * c.slot-slot.result + c.slot-slot.result)
+    ≡ c.args.i * curve_bytes c.args.shape + c.loop-j.j * slot_of c.args.shape + slot_of c.args.shape = ap₂ (λ
+    (x y : ℕ). c.args.i * x + c.loop-j.j * y + y) c.curve_bytes.ensures
     c.slot-slot.ensures in
-    let inside : (c.args.i * c.curve_bytes.result + c.loop-j.j * c.slot-slot.result + c.slot-slot.result) ≤ rows_bytes c.args.shape = rw at (omega (arith, row-end c.args.shape c.requires.1, slot-end c.args.shape c.loop-j-test.true)) in
+    let inside : (c.args.i * c.curve_bytes.result + c.loop-j.j * c.slot-slot.result + c.slot-slot.result) ≤ rows_bytes c.args.shape =
+    rw at (omega (arith, row-end c.args.shape c.requires.1, slot-end c.args.shape c.loop-j-test.true)) in
     omega (arith, inside, rows-small c.requires.0.fine)
 
 pub overflow_mul-shape : goal.overflow_mul-shape
@@ -57,31 +66,46 @@ overflow_mul-shape c =
 
 pub overflow_sub-end : goal.overflow_sub-end
 overflow_sub-end c =
-    let at : (c.args.i * c.curve_bytes.result + c.loop-j.j * c.slot-slot.result + c.slot-slot.result) ≡ c.args.i * curve_bytes c.args.shape + c.loop-j.j * slot_of c.args.shape + slot_of c.args.shape = ap₂ (λ (x y : ℕ). c.args.i * x + c.loop-j.j * y + y) c.curve_bytes.ensures
+    let at : (c.args.i * c.curve_bytes.result + c.loop-j.j * c.slot-slot.result + c.slot-slot.result)
+    ≡ c.args.i * curve_bytes c.args.shape + c.loop-j.j * slot_of c.args.shape + slot_of c.args.shape = ap₂ (λ
+    (x y : ℕ). c.args.i * x + c.loop-j.j * y + y) c.curve_bytes.ensures
     c.slot-slot.ensures in
     let lift : c.args.shape.u * c.loop-j.j ≤ c.args.shape.width = lift-inside c.requires.0.fine c.loop-j-test.true in
     omega (arith, lift, at)
 
 pub zero_between-requires : goal.zero_between-requires
 zero_between-requires c =
-    let at : (c.args.i * c.curve_bytes.result + c.loop-j.j * c.slot-slot.result + c.slot-slot.result) ≡ c.args.i * curve_bytes c.args.shape + c.loop-j.j * slot_of c.args.shape + slot_of c.args.shape = ap₂ (λ (x y : ℕ). c.args.i * x + c.loop-j.j * y + y) c.curve_bytes.ensures
+    let at : (c.args.i * c.curve_bytes.result + c.loop-j.j * c.slot-slot.result + c.slot-slot.result)
+    ≡ c.args.i * curve_bytes c.args.shape + c.loop-j.j * slot_of c.args.shape + slot_of c.args.shape = ap₂ (λ
+    (x y : ℕ). c.args.i * x + c.loop-j.j * y + y) c.curve_bytes.ensures
     c.slot-slot.ensures in
-    let inside : (c.args.i * c.curve_bytes.result + c.loop-j.j * c.slot-slot.result + c.slot-slot.result) ≤ rows_bytes c.args.shape = rw at (omega (arith, row-end c.args.shape c.requires.1, slot-end c.args.shape c.loop-j-test.true)) in
+    let inside : (c.args.i * c.curve_bytes.result + c.loop-j.j * c.slot-slot.result + c.slot-slot.result) ≤ rows_bytes c.args.shape =
+    rw at (omega (arith, row-end c.args.shape c.requires.1, slot-end c.args.shape c.loop-j-test.true)) in
     omega (arith, inside, c.requires.0.room)
 
 pub returns-then-not-zero_between : goal.returns-then-not-zero_between
 returns-then-not-zero_between c =
-    let at : (c.args.i * c.curve_bytes.result + c.loop-j.j * c.slot-slot.result + c.slot-slot.result) ≡ c.args.i * curve_bytes c.args.shape + c.loop-j.j * slot_of c.args.shape + slot_of c.args.shape = ap₂ (λ (x y : ℕ). c.args.i * x + c.loop-j.j * y + y) c.curve_bytes.ensures
+    let at : (c.args.i * c.curve_bytes.result + c.loop-j.j * c.slot-slot.result + c.slot-slot.result)
+    ≡ c.args.i * curve_bytes c.args.shape + c.loop-j.j * slot_of c.args.shape + slot_of c.args.shape = ap₂ (λ
+    (x y : ℕ). c.args.i * x + c.loop-j.j * y + y) c.curve_bytes.ensures
     c.slot-slot.ensures in
-    let answer : Decided c.zero_between.result (ZeroBetween c.args.rows.now (c.args.i * curve_bytes c.args.shape + c.loop-j.j * slot_of c.args.shape + slot_of c.args.shape - c.args.shape.u * c.loop-j.j) (c.args.i * curve_bytes c.args.shape + c.loop-j.j * slot_of c.args.shape + slot_of c.args.shape)) = rw at at c.zero_between.ensures in
+    let answer : Decided c.zero_between.result (ZeroBetween c.args.rows.now
+    (c.args.i * curve_bytes c.args.shape + c.loop-j.j * slot_of c.args.shape + slot_of c.args.shape - c.args.shape.u * c.loop-j.j)
+    (c.args.i * curve_bytes c.args.shape + c.loop-j.j * slot_of c.args.shape + slot_of c.args.shape)) =
+    rw at at c.zero_between.ensures in
     decided-false (λ light. answer.fails c.if-not-zero_between.true
     (light-slot c.requires.0.fine c.args.rows.now c.args.i c.loop-j-test.true (λ e. light c.loop-j.j e c.loop-j-test.true)))
 
 pub loop-j-preserved : goal.loop-j-preserved
 loop-j-preserved c =
-    let at : (c.args.i * c.curve_bytes.result + c.loop-j.j * c.slot-slot.result + c.slot-slot.result) ≡ c.args.i * curve_bytes c.args.shape + c.loop-j.j * slot_of c.args.shape + slot_of c.args.shape = ap₂ (λ (x y : ℕ). c.args.i * x + c.loop-j.j * y + y) c.curve_bytes.ensures
+    let at : (c.args.i * c.curve_bytes.result + c.loop-j.j * c.slot-slot.result + c.slot-slot.result)
+    ≡ c.args.i * curve_bytes c.args.shape + c.loop-j.j * slot_of c.args.shape + slot_of c.args.shape = ap₂ (λ
+    (x y : ℕ). c.args.i * x + c.loop-j.j * y + y) c.curve_bytes.ensures
     c.slot-slot.ensures in
-    let answer : Decided c.zero_between.result (ZeroBetween c.args.rows.now (c.args.i * curve_bytes c.args.shape + c.loop-j.j * slot_of c.args.shape + slot_of c.args.shape - c.args.shape.u * c.loop-j.j) (c.args.i * curve_bytes c.args.shape + c.loop-j.j * slot_of c.args.shape + slot_of c.args.shape)) = rw at at c.zero_between.ensures in (
+    let answer : Decided c.zero_between.result (ZeroBetween c.args.rows.now
+    (c.args.i * curve_bytes c.args.shape + c.loop-j.j * slot_of c.args.shape + slot_of c.args.shape - c.args.shape.u * c.loop-j.j)
+    (c.args.i * curve_bytes c.args.shape + c.loop-j.j * slot_of c.args.shape + slot_of c.args.shape)) = rw at at c.zero_between.ensures
+    in (
       omega arith,
       below_more _ _ c.loop-j.invariant.1
           (slot-light c.requires.0.fine c.args.rows.now c.args.i c.loop-j-test.true

@@ -26,7 +26,8 @@ slice_bounds-too_large-end c =
 
 pub returns-then-too_large : goal.returns-then-too_large
 returns-then-too_large c =
-    let answer : Decided c.too_large.result (TooLarge c.args.shape.p (take (rows_bytes c.args.shape) c.args.rows.now)) = rw c.rows_bytes-size.ensures at c.too_large.ensures in
+    let answer : Decided c.too_large.result (TooLarge c.args.shape.p (take (rows_bytes c.args.shape) c.args.rows.now)) =
+    rw c.rows_bytes-size.ensures at c.too_large.ensures in
     decided-false (λ x. x.below (answer.holds c.if-too_large.true))
 
 pub loop-i-init : goal.loop-i-init
@@ -34,7 +35,8 @@ loop-i-init c = (omega arith, λ k h. absurd (omega arith))
 
 pub row_sound-requires : goal.row_sound-requires
 row_sound-requires c =
-    let answer : Decided c.too_large.result (TooLarge c.args.shape.p (take (rows_bytes c.args.shape) c.args.rows.now)) = rw c.rows_bytes-size.ensures at c.too_large.ensures in
+    let answer : Decided c.too_large.result (TooLarge c.args.shape.p (take (rows_bytes c.args.shape) c.args.rows.now)) =
+    rw c.rows_bytes-size.ensures at c.too_large.ensures in
     let bytes : Bytes c.args.shape c.args.rows.now = bytes-below c.requires.0 c.requires.1.0 (answer.fails c.if-too_large.false) in
     (bytes, (c.loop-i-test.true, c.requires.1.1))
 
@@ -50,7 +52,8 @@ loop-i-preserved c =
 
 pub returns : goal.returns
 returns c =
-    let answer : Decided c.too_large.result (TooLarge c.args.shape.p (take (rows_bytes c.args.shape) c.args.rows.now)) = rw c.rows_bytes-size.ensures at c.too_large.ensures in
+    let answer : Decided c.too_large.result (TooLarge c.args.shape.p (take (rows_bytes c.args.shape) c.args.rows.now)) =
+    rw c.rows_bytes-size.ensures at c.too_large.ensures in
     decided-true (record {
       below = answer.fails c.if-too_large.false;
       sound = row-sound (λ i h. c.loop-i.invariant.1 i (omega arith));

@@ -16,7 +16,8 @@ use Rattle.rows.proofs.sound.Soundness.{bytes-below, sound-row, row-sound}
 use Rattle.rows.proofs.sound.sound.Given as goal
 
 abbrev pub invariant-loop-i : goal.invariant-loop-i
-invariant-loop-i l = (l.i ≤ suc l.shape.l) × ((k : ℕ) → k < l.i → SoundRow (symbols l.shape.p).ring l.shape.u l.shape.width l.r k (rows_of l.shape l.rows k))
+invariant-loop-i l = (l.i ≤ suc l.shape.l) × ((k : ℕ) → k < l.i → SoundRow (symbols l.shape.p).ring l.shape.u l.shape.width l.r k
+    (rows_of l.shape l.rows k))
 
 abbrev pub decreases-loop-i : goal.decreases-loop-i
 decreases-loop-i l = suc l.shape.l - l.i

@@ -42,12 +42,16 @@ difference-d-requires c =
 
 pub returns-then-d-ne0 : goal.returns-then-d-ne0
 returns-then-d-ne0 c =
-    let found : c.difference-d.result.value ≡ minus_bytes c.args.shape.p (delayed_byte c.args.rows.now c.args.a c.args.up c.loop-e.e) (times_bytes c.args.shape.p c.args.c.value (delayed_byte c.args.rows.now c.args.b c.args.down c.loop-e.e)) = c.difference-d.ensures ∙ rw (c.product.ensures, c.delayed-in-loop-e.ensures, c.delayed.ensures) in
+    let found : c.difference-d.result.value ≡ minus_bytes c.args.shape.p (delayed_byte c.args.rows.now c.args.a c.args.up c.loop-e.e)
+    (times_bytes c.args.shape.p c.args.c.value (delayed_byte c.args.rows.now c.args.b c.args.down c.loop-e.e)) =
+    c.difference-d.ensures ∙ rw (c.product.ensures, c.delayed-in-loop-e.ensures, c.delayed.ensures) in
     decided-false (λ z. c.if-d-ne0.true (found ∙ z c.loop-e.e c.loop-e-test.true))
 
 pub loop-e-preserved : goal.loop-e-preserved
 loop-e-preserved c =
-    let found : c.difference-d.result.value ≡ minus_bytes c.args.shape.p (delayed_byte c.args.rows.now c.args.a c.args.up c.loop-e.e) (times_bytes c.args.shape.p c.args.c.value (delayed_byte c.args.rows.now c.args.b c.args.down c.loop-e.e)) = c.difference-d.ensures ∙ rw (c.product.ensures, c.delayed-in-loop-e.ensures, c.delayed.ensures) in
+    let found : c.difference-d.result.value ≡ minus_bytes c.args.shape.p (delayed_byte c.args.rows.now c.args.a c.args.up c.loop-e.e)
+    (times_bytes c.args.shape.p c.args.c.value (delayed_byte c.args.rows.now c.args.b c.args.down c.loop-e.e)) =
+    c.difference-d.ensures ∙ rw (c.product.ensures, c.delayed-in-loop-e.ensures, c.delayed.ensures) in
     let l = c.loop-e in
     (omega arith, below_more _ _ l.invariant.1 (sym found ∙ c.if-d-ne0.false))
 

@@ -23,21 +23,24 @@ pub overflow_mul-row : goal.overflow_mul-row
 overflow_mul-row c =
     let x : Crosses c.args.shape c.args.rows.now c.args.r c.args.w c.args.s c.args.v = c.requires in
     let is : c.curve_bytes-len.result ≡ curve_bytes c.args.shape = c.curve_bytes-len.ensures in
-    let small_r : c.args.r * c.curve_bytes-len.result + c.curve_bytes-len.result ≤ rows_most = omega (arith, row_in x is c.args.r x.current, rows-small x.bytes.fine) in
+    let small_r : c.args.r * c.curve_bytes-len.result + c.curve_bytes-len.result ≤ rows_most =
+    omega (arith, row_in x is c.args.r x.current, rows-small x.bytes.fine) in
     omega (arith, small_r)
 
 pub overflow_mul-other : goal.overflow_mul-other
 overflow_mul-other c =
     let x : Crosses c.args.shape c.args.rows.now c.args.r c.args.w c.args.s c.args.v = c.requires in
     let is : c.curve_bytes-len.result ≡ curve_bytes c.args.shape = c.curve_bytes-len.ensures in
-    let small-s : c.args.s * c.curve_bytes-len.result + c.curve_bytes-len.result ≤ rows_most = omega (arith, row_in x is c.args.s x.other, rows-small x.bytes.fine) in
+    let small-s : c.args.s * c.curve_bytes-len.result + c.curve_bytes-len.result ≤ rows_most =
+    omega (arith, row_in x is c.args.s x.other, rows-small x.bytes.fine) in
     omega (arith, small-s)
 
 pub overflow_add-row : goal.overflow_add-row
 overflow_add-row c =
     let x : Crosses c.args.shape c.args.rows.now c.args.r c.args.w c.args.s c.args.v = c.requires in
     let is : c.curve_bytes-len.result ≡ curve_bytes c.args.shape = c.curve_bytes-len.ensures in
-    let small_r : c.args.r * c.curve_bytes-len.result + c.curve_bytes-len.result ≤ rows_most = omega (arith, row_in x is c.args.r x.current, rows-small x.bytes.fine) in
+    let small_r : c.args.r * c.curve_bytes-len.result + c.curve_bytes-len.result ≤ rows_most =
+    omega (arith, row_in x is c.args.r x.current, rows-small x.bytes.fine) in
     omega (arith, small_r, crosses-w x, width_in x is)
 
 pub overflow_sub-len : goal.overflow_sub-len
@@ -75,7 +78,8 @@ pub overflow_add-row-else-v-w : goal.overflow_add-row-else-v-w
 overflow_add-row-else-v-w c =
     let x : Crosses c.args.shape c.args.rows.now c.args.r c.args.w c.args.s c.args.v = c.requires in
     let is : c.curve_bytes-len.result ≡ curve_bytes c.args.shape = c.curve_bytes-len.ensures in
-    let small_r : c.args.r * c.curve_bytes-len.result + c.curve_bytes-len.result ≤ rows_most = omega (arith, row_in x is c.args.r x.current, rows-small x.bytes.fine) in
+    let small_r : c.args.r * c.curve_bytes-len.result + c.curve_bytes-len.result ≤ rows_most =
+    omega (arith, row_in x is c.args.r x.current, rows-small x.bytes.fine) in
     omega (arith, small_r, crosses-v x, width_in x is)
 
 pub overflow_sub-len-else-v-w : goal.overflow_sub-len-else-v-w

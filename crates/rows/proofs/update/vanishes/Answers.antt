@@ -33,42 +33,78 @@ loop-j-init c = (omega arith, λ t h. absurd (omega arith))
 pub overflow_mul-at : goal.overflow_mul-at
 overflow_mul-at c =
     let at : ℕ → ℕ = λ i. i * c.curve_bytes-curve.result + c.loop-j.j * c.slot-slot.result in
-    let at-is : (i : ℕ) → at i ≡ i * curve_bytes c.args.shape + c.loop-j.j * slot_of c.args.shape = λ i. ap₂ (λ (x y : ℕ). i * x + c.loop-j.j * y) c.curve_bytes-curve.ensures c.slot-slot.ensures in
-    let at-small : (i : ℕ) → i ≤ c.args.shape.l → at i < rows_most = λ i h. rw (at-is i) (omega (arith, row-end c.args.shape h, slot-end c.args.shape c.loop-j-test.true, rows-small c.requires.bytes.fine)) in
+    let at-is : (i : ℕ) → at i ≡ i * curve_bytes c.args.shape + c.loop-j.j * slot_of c.args.shape =
+    λ i. ap₂ (λ (x y : ℕ). i * x + c.loop-j.j * y) c.curve_bytes-curve.ensures c.slot-slot.ensures in
+    let at-small : (i : ℕ) → i ≤ c.args.shape.l → at i < rows_most =
+    λ i h. rw (at-is i) (omega (
+      arith,
+      row-end c.args.shape h,
+      slot-end c.args.shape c.loop-j-test.true,
+      rows-small c.requires.bytes.fine,
+    )) in
     omega (arith, at-small c.args.r c.requires.current)
 
 pub overflow_mul-r : goal.overflow_mul-r
 overflow_mul-r c =
     let at : ℕ → ℕ = λ i. i * c.curve_bytes-curve.result + c.loop-j.j * c.slot-slot.result in
-    let at-is : (i : ℕ) → at i ≡ i * curve_bytes c.args.shape + c.loop-j.j * slot_of c.args.shape = λ i. ap₂ (λ (x y : ℕ). i * x + c.loop-j.j * y) c.curve_bytes-curve.ensures c.slot-slot.ensures in
-    let at-small : (i : ℕ) → i ≤ c.args.shape.l → at i < rows_most = λ i h. rw (at-is i) (omega (arith, row-end c.args.shape h, slot-end c.args.shape c.loop-j-test.true, rows-small c.requires.bytes.fine)) in
+    let at-is : (i : ℕ) → at i ≡ i * curve_bytes c.args.shape + c.loop-j.j * slot_of c.args.shape =
+    λ i. ap₂ (λ (x y : ℕ). i * x + c.loop-j.j * y) c.curve_bytes-curve.ensures c.slot-slot.ensures in
+    let at-small : (i : ℕ) → i ≤ c.args.shape.l → at i < rows_most =
+    λ i h. rw (at-is i) (omega (
+      arith,
+      row-end c.args.shape h,
+      slot-end c.args.shape c.loop-j-test.true,
+      rows-small c.requires.bytes.fine,
+    )) in
     omega (arith, at-small c.args.r c.requires.current)
 
 pub overflow_add-r : goal.overflow_add-r
 overflow_add-r c =
     let at : ℕ → ℕ = λ i. i * c.curve_bytes-curve.result + c.loop-j.j * c.slot-slot.result in
-    let at-is : (i : ℕ) → at i ≡ i * curve_bytes c.args.shape + c.loop-j.j * slot_of c.args.shape = λ i. ap₂ (λ (x y : ℕ). i * x + c.loop-j.j * y) c.curve_bytes-curve.ensures c.slot-slot.ensures in
-    let at-small : (i : ℕ) → i ≤ c.args.shape.l → at i < rows_most = λ i h. rw (at-is i) (omega (arith, row-end c.args.shape h, slot-end c.args.shape c.loop-j-test.true, rows-small c.requires.bytes.fine)) in
+    let at-is : (i : ℕ) → at i ≡ i * curve_bytes c.args.shape + c.loop-j.j * slot_of c.args.shape =
+    λ i. ap₂ (λ (x y : ℕ). i * x + c.loop-j.j * y) c.curve_bytes-curve.ensures c.slot-slot.ensures in
+    let at-small : (i : ℕ) → i ≤ c.args.shape.l → at i < rows_most =
+    λ i h. rw (at-is i) (omega (
+      arith,
+      row-end c.args.shape h,
+      slot-end c.args.shape c.loop-j-test.true,
+      rows-small c.requires.bytes.fine,
+    )) in
     omega (arith, at-small c.args.r c.requires.current)
 
 pub overflow_mul-s : goal.overflow_mul-s
 overflow_mul-s c =
     let at : ℕ → ℕ = λ i. i * c.curve_bytes-curve.result + c.loop-j.j * c.slot-slot.result in
-    let at-is : (i : ℕ) → at i ≡ i * curve_bytes c.args.shape + c.loop-j.j * slot_of c.args.shape = λ i. ap₂ (λ (x y : ℕ). i * x + c.loop-j.j * y) c.curve_bytes-curve.ensures c.slot-slot.ensures in
-    let at-small : (i : ℕ) → i ≤ c.args.shape.l → at i < rows_most = λ i h. rw (at-is i) (omega (arith, row-end c.args.shape h, slot-end c.args.shape c.loop-j-test.true, rows-small c.requires.bytes.fine)) in
+    let at-is : (i : ℕ) → at i ≡ i * curve_bytes c.args.shape + c.loop-j.j * slot_of c.args.shape =
+    λ i. ap₂ (λ (x y : ℕ). i * x + c.loop-j.j * y) c.curve_bytes-curve.ensures c.slot-slot.ensures in
+    let at-small : (i : ℕ) → i ≤ c.args.shape.l → at i < rows_most =
+    λ i h. rw (at-is i) (omega (
+      arith,
+      row-end c.args.shape h,
+      slot-end c.args.shape c.loop-j-test.true,
+      rows-small c.requires.bytes.fine,
+    )) in
     omega (arith, at-small c.args.s c.requires.other)
 
 pub overflow_add-s : goal.overflow_add-s
 overflow_add-s c =
     let at : ℕ → ℕ = λ i. i * c.curve_bytes-curve.result + c.loop-j.j * c.slot-slot.result in
-    let at-is : (i : ℕ) → at i ≡ i * curve_bytes c.args.shape + c.loop-j.j * slot_of c.args.shape = λ i. ap₂ (λ (x y : ℕ). i * x + c.loop-j.j * y) c.curve_bytes-curve.ensures c.slot-slot.ensures in
-    let at-small : (i : ℕ) → i ≤ c.args.shape.l → at i < rows_most = λ i h. rw (at-is i) (omega (arith, row-end c.args.shape h, slot-end c.args.shape c.loop-j-test.true, rows-small c.requires.bytes.fine)) in
+    let at-is : (i : ℕ) → at i ≡ i * curve_bytes c.args.shape + c.loop-j.j * slot_of c.args.shape =
+    λ i. ap₂ (λ (x y : ℕ). i * x + c.loop-j.j * y) c.curve_bytes-curve.ensures c.slot-slot.ensures in
+    let at-small : (i : ℕ) → i ≤ c.args.shape.l → at i < rows_most =
+    λ i h. rw (at-is i) (omega (
+      arith,
+      row-end c.args.shape h,
+      slot-end c.args.shape c.loop-j-test.true,
+      rows-small c.requires.bytes.fine,
+    )) in
     omega (arith, at-small c.args.s c.requires.other)
 
 pub slot_vanishes-requires : goal.slot_vanishes-requires
 slot_vanishes-requires c =
     let at : ℕ → ℕ = λ i. i * c.curve_bytes-curve.result + c.loop-j.j * c.slot-slot.result in
-    let at-is : (i : ℕ) → at i ≡ i * curve_bytes c.args.shape + c.loop-j.j * slot_of c.args.shape = λ i. ap₂ (λ (x y : ℕ). i * x + c.loop-j.j * y) c.curve_bytes-curve.ensures c.slot-slot.ensures in
+    let at-is : (i : ℕ) → at i ≡ i * curve_bytes c.args.shape + c.loop-j.j * slot_of c.args.shape =
+    λ i. ap₂ (λ (x y : ℕ). i * x + c.loop-j.j * y) c.curve_bytes-curve.ensures c.slot-slot.ensures in
     let x = c.requires in
     record {
       fine = x.bytes.fine;
@@ -80,16 +116,20 @@ slot_vanishes-requires c =
 pub returns-then-not-slot_vanishes : goal.returns-then-not-slot_vanishes
 returns-then-not-slot_vanishes c =
     let at : ℕ → ℕ = λ i. i * c.curve_bytes-curve.result + c.loop-j.j * c.slot-slot.result in
-    let at-is : (i : ℕ) → at i ≡ i * curve_bytes c.args.shape + c.loop-j.j * slot_of c.args.shape = λ i. ap₂ (λ (x y : ℕ). i * x + c.loop-j.j * y) c.curve_bytes-curve.ensures c.slot-slot.ensures in
-    let answer : Decided c.slot_vanishes.result (Vanishing c.requires c.loop-j.j) = vanishing-is c.requires c.loop-j.j c.ratio-c.ensures (at-is c.args.r) c.beyond-up.ensures (at-is c.args.s)
+    let at-is : (i : ℕ) → at i ≡ i * curve_bytes c.args.shape + c.loop-j.j * slot_of c.args.shape =
+    λ i. ap₂ (λ (x y : ℕ). i * x + c.loop-j.j * y) c.curve_bytes-curve.ensures c.slot-slot.ensures in
+    let answer : Decided c.slot_vanishes.result (Vanishing c.requires c.loop-j.j) = vanishing-is c.requires c.loop-j.j c.ratio-c.ensures
+    (at-is c.args.r) c.beyond-up.ensures (at-is c.args.s)
     c.beyond-down.ensures c.slot_vanishes.ensures in
     decided-false (λ z. answer.fails c.if-not-slot_vanishes.true (zero-slot c.requires c.loop-j-test.true z))
 
 pub loop-j-preserved : goal.loop-j-preserved
 loop-j-preserved c =
     let at : ℕ → ℕ = λ i. i * c.curve_bytes-curve.result + c.loop-j.j * c.slot-slot.result in
-    let at-is : (i : ℕ) → at i ≡ i * curve_bytes c.args.shape + c.loop-j.j * slot_of c.args.shape = λ i. ap₂ (λ (x y : ℕ). i * x + c.loop-j.j * y) c.curve_bytes-curve.ensures c.slot-slot.ensures in
-    let answer : Decided c.slot_vanishes.result (Vanishing c.requires c.loop-j.j) = vanishing-is c.requires c.loop-j.j c.ratio-c.ensures (at-is c.args.r) c.beyond-up.ensures (at-is c.args.s)
+    let at-is : (i : ℕ) → at i ≡ i * curve_bytes c.args.shape + c.loop-j.j * slot_of c.args.shape =
+    λ i. ap₂ (λ (x y : ℕ). i * x + c.loop-j.j * y) c.curve_bytes-curve.ensures c.slot-slot.ensures in
+    let answer : Decided c.slot_vanishes.result (Vanishing c.requires c.loop-j.j) = vanishing-is c.requires c.loop-j.j c.ratio-c.ensures
+    (at-is c.args.r) c.beyond-up.ensures (at-is c.args.s)
     c.beyond-down.ensures c.slot_vanishes.ensures in (
       omega arith,
       below_more _ _ c.loop-j.invariant.1 (slot-zero c.requires c.loop-j-test.true

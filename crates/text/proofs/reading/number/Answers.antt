@@ -27,7 +27,13 @@ low : (i value : ℕ) → i < 3 → value < 10 ^ i → value < 100
 low i value h k = omega (arith, pow-le-pow_right {n = 10} (omega arith) {i = i} {j = 2} (omega arith))
 
 pub returns-then-text-lt1 : goal.returns-then-text-lt1
-returns-then-text-lt1 c = none (λ n r. elim c.then-text-lt1.branch [ then-text-lt1-via-then-text-lt1 w ↦ omega (arith, r.some) | then-text-lt1-via-else-text-lt1+then-text-gt3 w ↦ omega (arith, r.few) ])
+returns-then-text-lt1 c = none (λ n r. elim c.then-text-lt1.branch [
+  | then-text-lt1-via-then-text-lt1 w ↦ omega (
+    arith,
+    r.some,
+  )
+  | then-text-lt1-via-else-text-lt1+then-text-gt3 w ↦ omega (arith, r.few)
+])
 
 pub loop-i-init : goal.loop-i-init
 unfolding number_of
@@ -63,13 +69,15 @@ loop-i-preserved c =
 
 pub returns-then-value-gt255 : goal.returns-then-value-gt255
 returns-then-value-gt255 c =
-    let whole : let text = c.args.text.now in c.loop-i.value ≡ number_of text (length text) = let n : c.loop-i.i ≡ length c.args.text.now = omega arith in
+    let whole : let text =
+    c.args.text.now in c.loop-i.value ≡ number_of text (length text) = let n : c.loop-i.i ≡ length c.args.text.now = omega arith in
     rw n at c.loop-i.invariant.2 in
     none (λ n r. omega (arith, r.small, r.is ∙ sym whole))
 
 pub returns : goal.returns
 returns c =
-    let whole : let text = c.args.text.now in c.loop-i.value ≡ number_of text (length text) = let n : c.loop-i.i ≡ length c.args.text.now = omega arith in
+    let whole : let text =
+    c.args.text.now in c.loop-i.value ≡ number_of text (length text) = let n : c.loop-i.i ≡ length c.args.text.now = omega arith in
     rw n at c.loop-i.invariant.2 in
     record {
       holds = λ _. record {

@@ -15,7 +15,8 @@ use Rattle.text.specs.Reading.{Meant}
 use Rattle.text.proofs.reading.number.Given as goal
 
 abbrev pub invariant-loop-i : goal.invariant-loop-i
-invariant-loop-i l = (l.i ≤ length l.text) × (l.value < 10 ^ l.i) × (l.value ≡ number_of l.text l.i) × ((k : ℕ) → k < l.i → (48 ≤ get_or l.text k 0) × (get_or l.text k 0 ≤ 57))
+invariant-loop-i l = (l.i ≤ length l.text) × (l.value < 10 ^ l.i) × (l.value ≡ number_of l.text l.i) × ((k : ℕ) → k < l.i
+    → (48 ≤ get_or l.text k 0) × (get_or l.text k 0 ≤ 57))
 
 abbrev pub decreases-loop-i : goal.decreases-loop-i
 decreases-loop-i l = length l.text - l.i

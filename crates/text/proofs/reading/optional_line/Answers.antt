@@ -12,16 +12,22 @@ returns-then-not-span c = takes-none 0 0 (c.line_at-span.ensures.fails (not-true
 
 pub slice_bounds-optional-count : goal.slice_bounds-optional-count
 slice_bounds-optional-count c =
-    let stands : let a = c.args in Stands a.key.now a.text.now a.at c.line_at-span.result.from c.line_at-span.result.to = c.line_at-span.ensures.holds (not-false _ c.if-not-span.false) in
+    let stands : let a =
+    c.args in Stands a.key.now a.text.now a.at c.line_at-span.result.from c.line_at-span.result.to = c.line_at-span.ensures.holds
+    (not-false _ c.if-not-span.false) in
     let s = stands in omega arith
 
 pub overflow_add-next : goal.overflow_add-next
 overflow_add-next c =
-    let stands : let a = c.args in Stands a.key.now a.text.now a.at c.line_at-span.result.from c.line_at-span.result.to = c.line_at-span.ensures.holds (not-false _ c.if-not-span.false) in
+    let stands : let a =
+    c.args in Stands a.key.now a.text.now a.at c.line_at-span.result.from c.line_at-span.result.to = c.line_at-span.ensures.holds
+    (not-false _ c.if-not-span.false) in
     let s = stands in omega arith
 
 pub returns : goal.returns
 returns c =
-    let stands : let a = c.args in Stands a.key.now a.text.now a.at c.line_at-span.result.from c.line_at-span.result.to = c.line_at-span.ensures.holds (not-false _ c.if-not-span.false) in
+    let stands : let a =
+    c.args in Stands a.key.now a.text.now a.at c.line_at-span.result.from c.line_at-span.result.to = c.line_at-span.ensures.holds
+    (not-false _ c.if-not-span.false) in
     takes (optional_plain c.args.other) stands
     c.optional-found.ensures

@@ -25,8 +25,13 @@ loop-i-preserved c =
     let v = get_or a.text.now i 0 in
     let longer : take (i + 1) a.text.now ≡ take i a.text.now ++ v ∷ [] =
     rw (add-one, take-suc a.text.now i 0 c.loop-i-test.true) in
-    let next : a.at + (i + 1) ≡ a.at + i + 1 = omega arith in
-    (omega arith, rw (longer, next) (put-join c.loop-i.invariant.1 (put-one c.loop-i.out (a.at + i) v (omega (arith, put-long c.loop-i.invariant.1)))))
+    let next : a.at + (i + 1) ≡ a.at + i + 1 = omega arith in (
+      omega arith,
+      rw (longer, next) (put-join c.loop-i.invariant.1 (put-one c.loop-i.out (a.at + i) v (omega (
+        arith,
+        put-long c.loop-i.invariant.1,
+      )))),
+    )
 
 pub returns : goal.returns
 returns c = put_bound (rw (take_all c.loop-i.i c.args.text.now (omega arith)) at c.loop-i.invariant.1) (omega arith)

@@ -21,22 +21,42 @@ loop-i-init c = (omega arith, put_bound (put-nothing _ _ (omega arith)) (omega a
 
 pub overflow_mul-from : goal.overflow_mul-from
 overflow_mul-from c =
-    let inside : let a = c.args in c.loop-i.i * a.k + a.k ≤ length a.messages.now = omega (arith, one-more c.loop-i.i c.args.count c.args.k c.loop-i-test.true, c.requires.1) in
+    let inside : let a =
+    c.args in c.loop-i.i * a.k + a.k ≤ length a.messages.now = omega (
+      arith,
+      one-more c.loop-i.i c.args.count c.args.k c.loop-i-test.true,
+      c.requires.1,
+    ) in
     omega (arith, inside)
 
 pub overflow_add-to : goal.overflow_add-to
 overflow_add-to c =
-    let inside : let a = c.args in c.loop-i.i * a.k + a.k ≤ length a.messages.now = omega (arith, one-more c.loop-i.i c.args.count c.args.k c.loop-i-test.true, c.requires.1) in
+    let inside : let a =
+    c.args in c.loop-i.i * a.k + a.k ≤ length a.messages.now = omega (
+      arith,
+      one-more c.loop-i.i c.args.count c.args.k c.loop-i-test.true,
+      c.requires.1,
+    ) in
     omega (arith, inside)
 
 pub slice_bounds-put_message-count : goal.slice_bounds-put_message-count
 slice_bounds-put_message-count c =
-    let inside : let a = c.args in c.loop-i.i * a.k + a.k ≤ length a.messages.now = omega (arith, one-more c.loop-i.i c.args.count c.args.k c.loop-i-test.true, c.requires.1) in
+    let inside : let a =
+    c.args in c.loop-i.i * a.k + a.k ≤ length a.messages.now = omega (
+      arith,
+      one-more c.loop-i.i c.args.count c.args.k c.loop-i-test.true,
+      c.requires.1,
+    ) in
     omega (arith, inside)
 
 pub put_message-next-requires : goal.put_message-next-requires
 put_message-next-requires c =
-    let inside : let a = c.args in c.loop-i.i * a.k + a.k ≤ length a.messages.now = omega (arith, one-more c.loop-i.i c.args.count c.args.k c.loop-i-test.true, c.requires.1) in
+    let inside : let a =
+    c.args in c.loop-i.i * a.k + a.k ≤ length a.messages.now = omega (
+      arith,
+      one-more c.loop-i.i c.args.count c.args.k c.loop-i-test.true,
+      c.requires.1,
+    ) in
     let a = c.args in
     let i = c.loop-i.i in
     let p = c.loop-i.invariant.1 in
@@ -51,7 +71,12 @@ put_message-next-requires c =
 
 pub loop-i-preserved : goal.loop-i-preserved
 loop-i-preserved c =
-    let inside : let a = c.args in c.loop-i.i * a.k + a.k ≤ length a.messages.now = omega (arith, one-more c.loop-i.i c.args.count c.args.k c.loop-i-test.true, c.requires.1) in
+    let inside : let a =
+    c.args in c.loop-i.i * a.k + a.k ≤ length a.messages.now = omega (
+      arith,
+      one-more c.loop-i.i c.args.count c.args.k c.loop-i-test.true,
+      c.requires.1,
+    ) in
     let a = c.args in (
       omega arith,
       put-more c.loop-i.i a.k a.messages.now inside c.loop-i.invariant.1
