@@ -14,7 +14,7 @@ use Rattle.poly.proofs.Constants.{x_plus, x_plus-none, x_plus-neg, const-one, po
 use Rattle.poly.proofs.Bounds.{below-null, below-one}
 use Rattle.poly.proofs.Evaluation.{value-null}
 use Rattle.poly.proofs.Shift.{shift-none}
-use Rattle.poly.proofs.Degrees.{sum_below, degree, monic-pow, monic-locator}
+use Rattle.poly.proofs.Degrees.{sum_below, monic-pow, monic-locator}
 use Rattle.poly.proofs.CoprimePowers.{Divides, distinct-apart, divides-degree, Distinct}
 use Rattle.curves.specs.Curves.{Curve, Lead, AtMost, Smallest, Passing}
 use Rattle.curves.specs.Start.{start_row}

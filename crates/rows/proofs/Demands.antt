@@ -13,7 +13,7 @@ use Rattle.poly.proofs.TableLaws.{first_determined}
 use Rattle.poly.proofs.Interpolating.{places-distinct}
 use Rattle.curves.specs.Curves.{Curve, Smallest}
 use Rattle.curves.specs.Start.{start_row, total}
-use Rattle.curves.specs.Turns.{Outcome, stops, Turn, finished, updates}
+use Rattle.curves.specs.Turns.{Outcome, stops, Turn}
 use Rattle.curves.specs.Finish.{monic}
 use Rattle.curves.proofs.Promises.{allowed, after, Run, none, Promised}
 use Rattle.curves.proofs.Leads.{lead-light}

@@ -4,7 +4,6 @@
 use Rattle.std.specs.Prelude.{List, [], ◌∷◌, ◌++◌, ℕ}
 use Prim.Native.Char.{code}
 use Prim.Native.String.{String}
-use Prim.Native.String as String
 
 abbrev pub bytes : String → List ℕ
 bytes String.[] = []

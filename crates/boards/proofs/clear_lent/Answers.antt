@@ -1,6 +1,5 @@
 -- `clear_lent` meets its contract: zeros where there is room for them.
 use native.Mathlib.Omega.{arith}
-use borrow.Author.Rules.{rules}
 use Rattle.boards.proofs.LentLaws.{cleared-none}
 use Rattle.boards.proofs.clear_lent.Goals as goal
 

@@ -1,5 +1,4 @@
 -- `pluck_finish` meets its contract: the job's own, on the note read from the lent bytes, and its answer in them.
-use borrow.Author.Rules.{rules}
 use Rattle.boards.proofs.Calling.{finish-unread, finish-short, finish-done}
 use Rattle.boards.proofs.pluck_finish.Goals as goal
 

@@ -1,5 +1,4 @@
 -- `pluck_list` meets its contract: the job's own contract, and its answer in the lent bytes.
-use borrow.Author.Rules.{rules}
 use Rattle.boards.proofs.Calling.{list-short, list-done}
 use Rattle.boards.proofs.pluck_list.Goals as goal
 

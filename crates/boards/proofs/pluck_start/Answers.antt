@@ -1,5 +1,4 @@
 -- `pluck_start` meets its contract: the job's own contract, and its note in the lent bytes.
-use borrow.Author.Rules.{rules}
 use Rattle.boards.proofs.Calling.{start-short, start-done}
 use Rattle.boards.proofs.pluck_start.Goals as goal
 

@@ -1,5 +1,4 @@
 -- `pluck_turn` meets its contract: the job's own, on the note read from the lent bytes, and its answer in them.
-use borrow.Author.Rules.{rules}
 use Rattle.boards.proofs.Calling.{turn-unread, turn-short, turn-done}
 use Rattle.boards.proofs.pluck_turn.Goals as goal
 

@@ -5,7 +5,6 @@ use mathlib.Core.List.{List}
 use Prim.Native.Nat.{ℕ, ◌*◌}
 use lib.ListN.{length, take}
 use lib.Seq.{length-take-le}
-use borrow.Author.Rules.{rules}
 use Rattle.poly.specs.Limits.{height_most}
 use Rattle.near.specs.Job.{HasListed}
 use Rattle.near.specs.declared.Near.{Near}

@@ -1,6 +1,5 @@
 -- `read` meets its contract: the reader's refusal, or the departure that the six symbols spell.
 use mathlib.Core.Path.{refl}
-use borrow.Author.Rules.{rules}
 use Rattle.departures.proofs.Outcomes.{read-passed}
 use Rattle.departures.proofs.read.Goals as goal
 

@@ -1,7 +1,6 @@
 -- `write` meets its contract: the refusal, or the text at the front of the lent bytes.
 use Prim.Native.Nat.{◌≤◌}
 use lib.ListN.{length}
-use borrow.Author.Rules.{rules}
 use Rattle.departures.specs.Departures.{InRange, departure_symbols}
 use Rattle.departures.proofs.Outcomes.{put-passed, puts-refuses, puts-done}
 use Rattle.departures.proofs.write.Goals as goal

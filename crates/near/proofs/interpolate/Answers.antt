@@ -1,6 +1,5 @@
 -- `near::interpolate` meets its contract: start accepts, one turn with more updates than are ever needed comes to the end, and finish
 -- hands over the curve.
-use borrow.Author.Rules.{rules}
 use Rattle.near.proofs.Listing.{curve-found}
 use Rattle.near.proofs.interpolate.Goals as goal
 

@@ -4,7 +4,6 @@ use Prim.Native.Nat.{◌≤◌}
 use native.Mathlib.Nat.{mul-le-mul}
 use native.Mathlib.Omega.{arith}
 use lib.ListN.{length}
-use borrow.Author.Rules.{rules}
 use Rattle.poly.specs.Limits.{curve_most}
 use Rattle.poly.specs.Table.{First}
 use Rattle.rows.specs.Bytes.{shape, curve_bytes}

@@ -2,7 +2,6 @@
 use mathlib.Core.Path.{◌≡◌, ◌∙◌}
 use native.Mathlib.Omega.{arith}
 use lib.ListN.{take, drop, length-take}
-use borrow.Author.Rules.{rules}
 use Rattle.field.proofs.SymbolLaws.{byte-below}
 use Rattle.field.proofs.OperationLaws.{minus_bytes-below, inv_byte-below}
 use Rattle.poly.specs.Encode.{value_at}

@@ -1,10 +1,8 @@
 -- `encode` meets its contract: the loop has written the values at the places passed. Assumes nothing.
 use mathlib.Core.Path.{refl}
-use Prim.Native.Nat.{◌≤◌, ◌-◌}
 use native.Mathlib.Omega.{arith}
-use lib.ListN.{length}
 use borrow.Author.Rules.{rules}
-use Rattle.poly.proofs.Encoding.{Accepted, accepted, Written, written-more}
+use Rattle.poly.proofs.Encoding.{accepted, written-more}
 use Rattle.poly.proofs.encode.Goals as goal
 
 pub returns-then-number-ne0 : goal.returns-then-number-ne0

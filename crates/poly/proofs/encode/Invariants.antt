@@ -1,9 +1,6 @@
-use mathlib.Core.Path.{refl}
 use Prim.Native.Nat.{◌≤◌, ◌-◌}
-use native.Mathlib.Omega.{arith}
 use lib.ListN.{length}
-use borrow.Author.Rules.{rules}
-use Rattle.poly.proofs.Encoding.{Accepted, accepted, Written, written-more}
+use Rattle.poly.proofs.Encoding.{Accepted, Written}
 use Rattle.poly.proofs.encode.Given as goal
 
 abbrev pub invariant-loop-s : goal.invariant-loop-s

@@ -1,9 +1,7 @@
 -- `interpolate` meets its contract: after s places the bytes are the polynomial through them and their locator. Assumes nothing.
 use mathlib.Core.Path.{◌≡◌}
-use Prim.Native.Nat.{◌≤◌, ◌-◌}
 use native.Mathlib.Omega.{arith}
 use lib.ListN.{length}
-use Rattle.poly.specs.Buffers.{Interpolated}
 use Rattle.poly.proofs.Interpolating.{interpolated-none, interpolated-next, next_halves, next-subtracts, next_factors}
 use borrow.Author.Rules.{rules}
 use Rattle.poly.proofs.interpolate.Goals as goal

@@ -1,10 +1,6 @@
-use mathlib.Core.Path.{◌≡◌}
 use Prim.Native.Nat.{◌≤◌, ◌-◌}
-use native.Mathlib.Omega.{arith}
 use lib.ListN.{length}
 use Rattle.poly.specs.Buffers.{Interpolated}
-use Rattle.poly.proofs.Interpolating.{interpolated-none, interpolated-next, next_halves, next-subtracts, next_factors}
-use borrow.Author.Rules.{rules}
 use Rattle.poly.proofs.interpolate.Given as goal
 
 abbrev pub invariant-loop-s : goal.invariant-loop-s

@@ -1,8 +1,7 @@
 -- `multiply` meets its contract: from x^i on the product is in place. Assumes nothing.
 use mathlib.Core.Path.{◌≡◌}
-use Prim.Native.Nat.{◌≤◌}
 use native.Mathlib.Omega.{arith}
-use Rattle.poly.proofs.Products.{Multiplied, multiplied-low, multiplied-more, multiplied-all}
+use Rattle.poly.proofs.Products.{multiplied-low, multiplied-more, multiplied-all}
 use borrow.Author.Rules.{rules}
 use Rattle.poly.proofs.multiply.Goals as goal
 

@@ -1,8 +1,5 @@
-use mathlib.Core.Path.{◌≡◌}
 use Prim.Native.Nat.{◌≤◌}
-use native.Mathlib.Omega.{arith}
-use Rattle.poly.proofs.Products.{Multiplied, multiplied-low, multiplied-more, multiplied-all}
-use borrow.Author.Rules.{rules}
+use Rattle.poly.proofs.Products.{Multiplied}
 use Rattle.poly.proofs.multiply.Given as goal
 
 abbrev pub invariant-loop-i : goal.invariant-loop-i

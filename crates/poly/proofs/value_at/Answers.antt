@@ -1,6 +1,6 @@
 -- `value_at` meets its contract: the sum is the value of the coefficients from i on.
 use mathlib.Core.Path.{◌≡◌, refl, sym, ◌∙◌}
-use Prim.Native.Nat.{◌≤◌, ◌<◌, ◌-◌}
+use Prim.Native.Nat.{◌<◌, ◌-◌}
 use lib.ListN.{length}
 use borrow.Author.Rules.{rules}
 use Rattle.field.specs.Symbols.{symbols_of}

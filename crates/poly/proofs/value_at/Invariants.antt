@@ -1,10 +1,8 @@
-use mathlib.Core.Path.{◌≡◌, refl, sym, ◌∙◌}
-use Prim.Native.Nat.{◌≤◌, ◌<◌, ◌-◌}
+use mathlib.Core.Path.{◌≡◌}
+use Prim.Native.Nat.{◌≤◌}
 use lib.ListN.{length}
-use borrow.Author.Rules.{rules}
 use Rattle.field.specs.Symbols.{symbols_of}
-use Rattle.field.proofs.SymbolLaws.{byte-below}
-use Rattle.poly.proofs.BufferLaws.{horner, horner-none, horner-more, horner-all}
+use Rattle.poly.proofs.BufferLaws.{horner}
 use Rattle.poly.proofs.value_at.Given as goal
 
 abbrev pub invariant-loop-i : goal.invariant-loop-i

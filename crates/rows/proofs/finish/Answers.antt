@@ -3,7 +3,6 @@ use mathlib.Core.Path.{refl, sym, subst}
 use Prim.Native.Nat.{◌≤◌}
 use native.Mathlib.Omega.{arith}
 use lib.ListN.{length}
-use borrow.Author.Rules.{rules}
 use Rattle.poly.specs.Lent.{Untouched}
 use Rattle.curves.proofs.Leads.{lead-light}
 use Rattle.curves.proofs.Leads.{lead-degree}

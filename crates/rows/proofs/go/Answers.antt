@@ -1,16 +1,13 @@
 -- `rows::go` meets its contract. The loop's invariant: a turn from here ends as the whole turn does, with the updates made so far counted.
 -- With each pass either the current row rises or the allowance falls.
-use mathlib.Core.Path.{◌≡◌, refl, sym, subst}
-use Prim.Native.Nat.{ℕ, suc, ◌+◌, ◌-◌, ◌≤◌}
+use mathlib.Core.Path.{refl, sym, subst}
+use Prim.Native.Nat.{ℕ, ◌≤◌}
 use native.Mathlib.Numerals.{add-one}
 use native.Mathlib.Omega.{arith}
-use borrow.Author.Rules.{rules}
 use Rattle.field.specs.Symbols.{symbols}
 use Rattle.curves.specs.Curves.{Lead}
 use Rattle.rows.specs.Bytes.{rows_of}
-use Rattle.rows.specs.Jobs.{shape_of}
 use Rattle.rows.specs.Work.{Crosses}
-use Rattle.rows.specs.declared.Shape.{Shape}
 use Rattle.rows.proofs.Notes.{good-note}
 use Rattle.rows.proofs.Placing.{light-row}
 use Rattle.rows.proofs.Going.{Going, going-begins, going-lead, going-rises, going-below, going_crosses, going-updates, ends-finished}

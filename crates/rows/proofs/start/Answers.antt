@@ -1,7 +1,6 @@
 -- `rows::start` meets its contract.
 use mathlib.Core.Path.{refl, sym}
 use native.Mathlib.Omega.{arith}
-use borrow.Author.Rules.{rules}
 use Rattle.poly.proofs.Interpolating.{interpolated-below}
 use Rattle.rows.proofs.Notes.{good-fine}
 use Rattle.rows.proofs.Accepted.{Accepted, start-accepted, accepted-note}

@@ -2,11 +2,10 @@
 -- refused there is no reading; and the seven lines together are one.
 use mathlib.Core.Path.{◌≡◌, sym, ap, subst}
 use mathlib.Core.Bool.{true}
-use mathlib.Core.List.{List, []}
+use mathlib.Core.List.{List}
 use Prim.Native.Nat.{ℕ}
 use native.Mathlib.Omega.{arith}
 use borrow.Author.Tests.{not-true, not-false}
-use borrow.Author.Rules.{rules}
 use lib.ListN.{length, take, drop, length-drop, drop_of_length-le}
 use Rattle.text.specs.Lines.{bytes}
 use Rattle.text.specs.Requests.{Number, Optional, FewNumbers, Line, Lines, Meaning, lines, Readable, HasRead}

@@ -3,8 +3,7 @@ use mathlib.Core.Logic.{inl, inr}
 use Prim.Native.Nat.{◌*◌, ◌≤◌}
 use native.Mathlib.Nat.{mul-le-mul}
 use native.Mathlib.Omega.{arith}
-use borrow.Author.Rules.{rules}
-use Rattle.text.specs.Answers.{Reply, reply, details}
+use Rattle.text.specs.Answers.{reply, details}
 use Rattle.text.specs.Answers.HasWritten.{refused}
 use Rattle.text.proofs.Puts.{put-join}
 use Rattle.text.proofs.Answers.{first_alone, all-lines, has-written}

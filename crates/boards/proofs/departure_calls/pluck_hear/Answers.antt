@@ -1,5 +1,4 @@
 -- `pluck_hear` meets its contract: the job's own contract, and what was heard in the lent bytes.
-use borrow.Author.Rules.{rules}
 use Rattle.boards.proofs.Calling.{hear-short, hear-done}
 use Rattle.boards.proofs.departure_calls.pluck_hear.Goals as goal
 

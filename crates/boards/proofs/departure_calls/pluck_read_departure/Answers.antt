@@ -1,5 +1,4 @@
 -- `pluck_read_departure` meets its contract: the job's own contract, and its departure in the lent bytes.
-use borrow.Author.Rules.{rules}
 use Rattle.boards.proofs.Calling.{read-refused, read-short, read-done}
 use Rattle.boards.proofs.departure_calls.pluck_read_departure.Goals as goal
 

@@ -1,7 +1,6 @@
 -- `put_departure` meets its contract: five stores, one after the other, are one run of stores.
 use lib.ListN.{length-set}
 use native.Mathlib.Omega.{arith}
-use borrow.Author.Rules.{rules}
 use Rattle.boards.proofs.departure_calls.put_departure.Goals as goal
 
 pub bounds-bytes-1 : goal.bounds-bytes-1

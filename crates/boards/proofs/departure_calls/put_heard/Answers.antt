@@ -1,7 +1,6 @@
 -- `put_heard` meets its contract: the count is stored behind the departure's bytes.
 use mathlib.Core.Path.{ap}
 use lib.ListN.{set}
-use borrow.Author.Rules.{rules}
 use Rattle.boards.proofs.departure_calls.put_heard.Goals as goal
 
 pub returns : goal.returns

@@ -5,7 +5,6 @@ use Prim.Native.Nat.{ℕ}
 use native.Mathlib.Omega.{arith}
 use lib.ListN.{length-set}
 use lib.Seq.{sets}
-use borrow.Author.Rules.{rules}
 use Rattle.departures.proofs.clock.put_clock.Goals as goal
 
 digits : (xs : List ℕ) {a a' b b' c c' d d' : ℕ} → a ≡ a' → b ≡ b' → c ≡ c' → d ≡ d'

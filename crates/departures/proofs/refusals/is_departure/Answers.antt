@@ -1,7 +1,6 @@
 -- `is_departure` meets its contract: the length, then the symbols, then the minute that they spell.
 use mathlib.Core.Path.{ap}
 use native.Mathlib.Omega.{arith}
-use borrow.Author.Rules.{rules}
 use Rattle.poly.proofs.TableLaws.{below-passed, none-large, decided-true, decided-false}
 use Rattle.near.specs.Lists.{Spelt}
 use Rattle.departures.specs.Departures.{departure_field, departure_symbols}

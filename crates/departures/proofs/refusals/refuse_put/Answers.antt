@@ -2,8 +2,6 @@
 use mathlib.Core.Path.{refl}
 use mathlib.Core.Logic.{inl, inr}
 use native.Mathlib.Omega.{arith}
-use borrow.Author.Rules.{rules}
-use borrow.Author.Tests.{not-true, not-false}
 use Rattle.departures.specs.Departures.{InRange}
 use Rattle.departures.proofs.refusals.refuse_put.Goals as goal
 

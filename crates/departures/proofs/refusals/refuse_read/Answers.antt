@@ -1,7 +1,6 @@
 -- `refuse_read` meets its contract: 15 for what is no departure.
 use mathlib.Core.Path.{refl}
 use mathlib.Core.Logic.{inl, inr}
-use borrow.Author.Rules.{rules}
 use Rattle.departures.proofs.refusals.refuse_read.Goals as goal
 
 pub returns-then-is_departure : goal.returns-then-is_departure

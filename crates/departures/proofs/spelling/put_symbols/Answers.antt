@@ -1,7 +1,6 @@
 -- `put_symbols` meets its contract: six stores, one after the other, are one run of stores.
 use lib.ListN.{length-set}
 use native.Mathlib.Omega.{arith}
-use borrow.Author.Rules.{rules}
 use Rattle.departures.proofs.spelling.put_symbols.Goals as goal
 
 pub bounds-message-1 : goal.bounds-message-1

@@ -1,6 +1,5 @@
 -- `field::Symbol::difference` meets its contract, in the field of 16 and modulo p.
 use mathlib.Core.Path.{sym, ◌∙◌}
-use borrow.Author.Rules.{rules}
 use Rattle.field.specs.Operations.{Operands}
 use Rattle.field.proofs.OperationLaws.{plus_bits, minus-mod, minus_bits}
 use Rattle.field.proofs.Symbol.difference.Goals as goal

@@ -1,6 +1,5 @@
 -- `field::Symbol::inverse` meets its contract: the power p - 2 is the inverse.
 use mathlib.Core.Path.{ap, ◌∙◌}
-use borrow.Author.Rules.{rules}
 use Rattle.field.specs.Symbols.{Element, symbol}
 use Rattle.field.specs.Operations.{inv_byte, pow_byte}
 use Rattle.field.proofs.SymbolLaws.{power-inverse}

@@ -1,6 +1,5 @@
 -- `field::Symbol::negative` meets its contract, in the field of 16 and modulo p.
 use mathlib.Core.Path.{sym}
-use borrow.Author.Rules.{rules}
 use Rattle.field.specs.Operations.{Operand}
 use Rattle.field.proofs.OperationLaws.{neg-mod, neg_bits}
 use Rattle.field.proofs.Symbol.negative.Goals as goal

@@ -4,9 +4,8 @@ use mathlib.Core.Path.{◌≡◌, sym, ap, ◌∙◌}
 use Prim.Native.Nat.{ℕ, zero, suc, ◌-◌, ◌/◌, ◌%◌, ◌^◌, ◌<◌}
 use native.Mathlib.Nat.{pow-suc}
 use native.Mathlib.Omega.{arith}
-use borrow.Author.Rules.{rules}
 use Rattle.field.specs.Field.{RingLaws, pow}
-use Rattle.field.specs.Symbols.{Element, symbol, symbols, product_of}
+use Rattle.field.specs.Symbols.{symbol, symbols, product_of}
 use Rattle.field.specs.Operations.{Listed, times_bytes, pow_byte}
 use Rattle.field.proofs.RingLaws.{mul_assoc, mul-one, one-mul}
 use Rattle.field.proofs.Sums.{pow-zero, pow_halved}

@@ -1,15 +1,7 @@
-use mathlib.Core.Path.{◌≡◌, sym, ap, ◌∙◌}
-use Prim.Native.Nat.{ℕ, zero, suc, ◌-◌, ◌/◌, ◌%◌, ◌^◌, ◌<◌}
-use native.Mathlib.Nat.{pow-suc}
-use native.Mathlib.Omega.{arith}
-use borrow.Author.Rules.{rules}
-use Rattle.field.specs.Field.{RingLaws, pow}
+use mathlib.Core.Path.{◌≡◌}
+use Prim.Native.Nat.{ℕ, ◌^◌, ◌<◌}
+use Rattle.field.specs.Field.{pow}
 use Rattle.field.specs.Symbols.{Element, symbol, symbols, product_of}
-use Rattle.field.specs.Operations.{Listed, times_bytes, pow_byte}
-use Rattle.field.proofs.RingLaws.{mul_assoc, mul-one, one-mul}
-use Rattle.field.proofs.Sums.{pow-zero, pow_halved}
-use Rattle.field.proofs.SymbolLaws.{byte-is, symbols-field}
-use Rattle.field.proofs.OperationLaws.{symbol-times_bytes, symbol-pow_byte, times_bytes-below, pow_byte-below}
 use Rattle.field.proofs.Symbol.power.Given as goal
 
 -- r times b to the power n

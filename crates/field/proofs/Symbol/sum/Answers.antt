@@ -1,6 +1,5 @@
 -- `field::Symbol::sum` meets its contract, in the field of 16 and modulo p.
 use mathlib.Core.Path.{sym}
-use borrow.Author.Rules.{rules}
 use Rattle.field.specs.Operations.{Operands}
 use Rattle.field.proofs.OperationLaws.{plus-mod, plus_bits}
 use Rattle.field.proofs.Symbol.sum.Goals as goal

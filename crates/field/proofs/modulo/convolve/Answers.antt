@@ -1,10 +1,9 @@
 -- `field::modulo::convolve` meets its contract: the sum stands for that of the first i products.
 use mathlib.Core.Path.{◌≡◌, sym, ap, ◌∙◌}
-use Prim.Native.Nat.{◌≤◌, ◌*◌, ◌-◌}
+use Prim.Native.Nat.{◌-◌}
 use native.Mathlib.Omega.{arith}
 use lib.ListN.{get_or}
-use Rattle.field.specs.Symbols.{Element, symbol}
-use Rattle.field.specs.Kernels.{convolution}
+use Rattle.field.specs.Symbols.{Element}
 use Rattle.field.proofs.SymbolLaws.{remainder-byte, byte-symbol, symbol-plus, symbol-times}
 use Rattle.field.proofs.Convolutions.{convolution-none, convolution-more}
 use borrow.Author.Rules.{rules}

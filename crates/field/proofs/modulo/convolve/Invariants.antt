@@ -1,12 +1,7 @@
-use mathlib.Core.Path.{◌≡◌, sym, ap, ◌∙◌}
+use mathlib.Core.Path.{◌≡◌}
 use Prim.Native.Nat.{◌≤◌, ◌*◌, ◌-◌}
-use native.Mathlib.Omega.{arith}
-use lib.ListN.{get_or}
-use Rattle.field.specs.Symbols.{Element, symbol}
+use Rattle.field.specs.Symbols.{symbol}
 use Rattle.field.specs.Kernels.{convolution}
-use Rattle.field.proofs.SymbolLaws.{remainder-byte, byte-symbol, symbol-plus, symbol-times}
-use Rattle.field.proofs.Convolutions.{convolution-none, convolution-more}
-use borrow.Author.Rules.{rules}
 use Rattle.field.proofs.modulo.convolve.Given as goal
 
 abbrev pub invariant-loop-i : goal.invariant-loop-i

@@ -1,6 +1,5 @@
 -- `field::modulo::reciprocal` meets its contract.
 use native.Mathlib.Omega.{arith}
-use borrow.Author.Rules.{rules}
 use Rattle.field.proofs.ReciprocalLaws.{reciprocal-small}
 use Rattle.field.proofs.modulo.reciprocal.Goals as goal
 

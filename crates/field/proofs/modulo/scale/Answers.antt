@@ -1,10 +1,8 @@
 -- `field::modulo::scale` meets its contract. The loop's invariant: the first i symbols of the region are done.
 use mathlib.Core.Path.{◌≡◌, refl, sym, ◌∙◌}
-use Prim.Native.Nat.{ℕ, ◌+◌, ◌-◌, ◌*◌, ◌<◌, ◌≤◌}
+use Prim.Native.Nat.{◌+◌, ◌*◌, ◌<◌, ◌≤◌}
 use native.Mathlib.Omega.{arith}
-use lib.ListN.{length, get_or, length-set}
-use borrow.Author.Rules.{rules}
-use Rattle.field.specs.Kernels.{scaled}
+use lib.ListN.{get_or, length-set}
 use Rattle.field.proofs.OperationLaws.{times-mod}
 use Rattle.field.proofs.ReciprocalLaws.{small-product}
 use Rattle.field.proofs.KernelLaws.{scaled-zero, scaled-next-below, scaled-more}

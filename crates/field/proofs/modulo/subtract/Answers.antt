@@ -1,10 +1,8 @@
 -- `field::modulo::subtract` meets its contract. The loop's invariant: the first i symbols of the region are done. m is p less the factor.
 use mathlib.Core.Path.{◌≡◌, refl, sym}
-use Prim.Native.Nat.{ℕ, ◌+◌, ◌-◌, ◌*◌, ◌<◌, ◌≤◌}
+use Prim.Native.Nat.{ℕ, ◌+◌, ◌*◌, ◌<◌, ◌≤◌}
 use native.Mathlib.Omega.{arith}
-use lib.ListN.{length, get_or, length-set}
-use borrow.Author.Rules.{rules}
-use Rattle.field.specs.Kernels.{subtracted}
+use lib.ListN.{get_or, length-set}
 use Rattle.field.proofs.ReciprocalLaws.{small-product}
 use Rattle.field.proofs.KernelLaws.{subtracted-zero, target-below, source-below, subtracted-more-mod}
 use Rattle.field.proofs.modulo.subtract.Goals as goal

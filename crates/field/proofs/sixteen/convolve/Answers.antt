@@ -1,12 +1,11 @@
 -- `field::sixteen::convolve` meets its contract: the sum stands for that of the first i products.
 use mathlib.Core.Path.{◌≡◌, sym, ap, ◌∙◌}
-use Prim.Native.Nat.{ℕ, ◌≤◌, ◌<◌, ◌-◌}
+use Prim.Native.Nat.{ℕ, ◌<◌, ◌-◌}
 use native.Mathlib.Omega.{arith}
 use lib.Bits.{bit_and, xor_lt, and_mask, mask_lt}
 use lib.ListN.{get_or}
 use borrow.Author.Rules.{rules}
 use Rattle.field.specs.Symbols.{symbol}
-use Rattle.field.specs.Kernels.{convolution}
 use Rattle.field.proofs.SymbolLaws.{byte-is, byte-symbol, symbol-byte}
 use Rattle.field.proofs.OperationLaws.{symbol-times_bytes, symbol-plus_bits, times_bytes-below}
 use Rattle.field.proofs.Convolutions.{convolution-none, convolution-more}

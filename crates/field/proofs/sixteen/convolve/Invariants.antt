@@ -1,14 +1,7 @@
-use mathlib.Core.Path.{◌≡◌, sym, ap, ◌∙◌}
-use Prim.Native.Nat.{ℕ, ◌≤◌, ◌<◌, ◌-◌}
-use native.Mathlib.Omega.{arith}
-use lib.Bits.{bit_and, xor_lt, and_mask, mask_lt}
-use lib.ListN.{get_or}
-use borrow.Author.Rules.{rules}
+use mathlib.Core.Path.{◌≡◌}
+use Prim.Native.Nat.{◌≤◌, ◌<◌, ◌-◌}
 use Rattle.field.specs.Symbols.{symbol}
 use Rattle.field.specs.Kernels.{convolution}
-use Rattle.field.proofs.SymbolLaws.{byte-is, byte-symbol, symbol-byte}
-use Rattle.field.proofs.OperationLaws.{symbol-times_bytes, symbol-plus_bits, times_bytes-below}
-use Rattle.field.proofs.Convolutions.{convolution-none, convolution-more}
 use Rattle.field.proofs.sixteen.convolve.Given as goal
 
 abbrev pub invariant-loop-i : goal.invariant-loop-i

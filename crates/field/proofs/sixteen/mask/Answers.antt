@@ -3,7 +3,6 @@ use mathlib.Core.Path.{◌≡◌, refl, ap, ◌∙◌}
 use Prim.Native.Nat.{ℕ, zero, suc, ◌-◌, ◌*◌, ◌/◌, ◌%◌, ◌^◌, ◌<◌, ◌≤◌}
 use native.Mathlib.Omega.{arith}
 use lib.Bits.{bit_and, and_mask, and_le_r}
-use borrow.Author.Rules.{rules}
 use Rattle.field.proofs.sixteen.mask.Goals as goal
 
 -- a bit, sixteen times less once

@@ -1,6 +1,5 @@
 -- `field::sixteen::product` meets its contract: the remainder of the whole product is the product of the field.
 use mathlib.Core.Path.{sym, ◌∙◌}
-use borrow.Author.Rules.{rules}
 use Rattle.field.proofs.BitPolynomialLaws.{product-low}
 use Rattle.field.proofs.OperationLaws.{times_bits}
 use Rattle.field.proofs.sixteen.product.Goals as goal

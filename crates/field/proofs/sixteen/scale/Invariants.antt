@@ -1,10 +1,7 @@
-use mathlib.Core.Path.{◌≡◌, refl, sym}
-use Prim.Native.Nat.{◌+◌, ◌-◌, ◌≤◌, ◌<◌}
-use native.Mathlib.Omega.{arith}
-use lib.ListN.{length, get_or, length-set}
-use borrow.Author.Rules.{rules}
+use mathlib.Core.Path.{◌≡◌}
+use Prim.Native.Nat.{◌-◌, ◌≤◌}
+use lib.ListN.{length}
 use Rattle.field.specs.Kernels.{scaled}
-use Rattle.field.proofs.KernelLaws.{scaled-zero, scaled-next-below, scaled-more}
 use Rattle.field.proofs.sixteen.scale.Given as goal
 
 abbrev pub invariant-loop-i : goal.invariant-loop-i

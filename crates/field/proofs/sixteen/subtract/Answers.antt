@@ -1,10 +1,8 @@
 -- `field::sixteen::subtract` meets its contract. The loop's invariant: the first i symbols of the region are done.
 use mathlib.Core.Path.{◌≡◌, refl, sym}
-use Prim.Native.Nat.{ℕ, ◌+◌, ◌-◌, ◌≤◌, ◌<◌}
+use Prim.Native.Nat.{◌+◌, ◌<◌}
 use native.Mathlib.Omega.{arith}
-use lib.ListN.{length, get_or, length-set}
-use borrow.Author.Rules.{rules}
-use Rattle.field.specs.Kernels.{subtracted}
+use lib.ListN.{get_or, length-set}
 use Rattle.field.proofs.OperationLaws.{minus_bits, times_bytes-below}
 use Rattle.field.proofs.KernelLaws.{subtracted-zero, target-below, source-below, subtracted-more}
 use Rattle.field.proofs.sixteen.subtract.Goals as goal

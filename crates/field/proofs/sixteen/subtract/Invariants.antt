@@ -1,11 +1,7 @@
-use mathlib.Core.Path.{◌≡◌, refl, sym}
-use Prim.Native.Nat.{ℕ, ◌+◌, ◌-◌, ◌≤◌, ◌<◌}
-use native.Mathlib.Omega.{arith}
-use lib.ListN.{length, get_or, length-set}
-use borrow.Author.Rules.{rules}
+use mathlib.Core.Path.{◌≡◌}
+use Prim.Native.Nat.{◌-◌, ◌≤◌}
+use lib.ListN.{length}
 use Rattle.field.specs.Kernels.{subtracted}
-use Rattle.field.proofs.OperationLaws.{minus_bits, times_bytes-below}
-use Rattle.field.proofs.KernelLaws.{subtracted-zero, target-below, source-below, subtracted-more}
 use Rattle.field.proofs.sixteen.subtract.Given as goal
 
 abbrev pub invariant-loop-i : goal.invariant-loop-i

@@ -1,7 +1,6 @@
 -- `field::sixteen::whole_product` meets its contract: antt computes what the code works out at all pairs of numbers below 16.
 use Prim.Native.Nat.{ℕ, ◌*◌, ◌%◌, ◌^◌}
 use lib.Bits.{bit_and, bit_xor}
-use borrow.Author.Rules.{rules}
 use Rattle.field.specs.BitPolynomials.{bit, bit_product}
 use Rattle.field.proofs.Tests.{equal-at-two}
 use Rattle.field.proofs.sixteen.whole_product.Goals as goal

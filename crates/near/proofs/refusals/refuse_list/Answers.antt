@@ -1,14 +1,13 @@
 -- `near::refusals::refuse_list` meets its contract: it asks in the table's order.
 use mathlib.Core.Path.{refl}
 use mathlib.Core.Logic.{inl, inr, ⊎_elim}
-use mathlib.Core.List.{List}
 use Prim.Native.Nat.{ℕ}
 use native.Mathlib.Nat.{mul-le-mul}
 use native.Mathlib.Omega.{arith}
 use lib.ListN.{drop}
 use borrow.Author.Rules.{rules}
-use borrow.Author.Tests.{ltb-true, ltb-false}
-use Rattle.poly.specs.Table.{Refusal, First}
+use borrow.Author.Tests.{ltb-false}
+use Rattle.poly.specs.Table.{First}
 use Rattle.poly.proofs.TableLaws.{first-stops, first-goes}
 use Rattle.near.specs.Job.{list_table}
 use Rattle.near.proofs.refusals.refuse_list.Goals as goal

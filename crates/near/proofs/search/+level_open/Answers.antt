@@ -1,15 +1,9 @@
 -- `near::search::level` and `near::search::open` meet their contracts. The loop's invariant: the symbols below c are tried. What is left to choose
 -- falls from open to level, and level is above open with as much left.
-use borrow.Author.Rules.{rules}
-use mathlib.Core.Path.{◌≡◌, refl, ap, ◌∙◌}
-use mathlib.Core.Logic.{⊎_elim}
-use Prim.Native.Nat.{ℕ, suc, ◌+◌, ◌-◌, ◌<◌}
+use mathlib.Core.Path.{◌≡◌, refl}
+use Prim.Native.Nat.{◌<◌}
 use native.Mathlib.Omega.{arith}
-use lib.ListN.{length, length-set}
-use Rattle.field.specs.Symbols.{symbols}
-use Rattle.near.specs.Search.{lowest}
-use Rattle.near.specs.Work.{curve_of}
-use Rattle.near.proofs.search.Levels.{Going, going-none, going_searches, going-messages, going-all, fitting, failing, opens, grown, passed}
+use Rattle.near.proofs.search.Levels.{going-none, going_searches, going-all, fitting, failing, opens, grown, passed}
 use Rattle.near.proofs.search.Levels.{next-below, spelt-last, front-kept, with-last, with-next, next_searches, back_tries, back-leaves}
 use Rattle.near.proofs.search.+level_open.Goals as goal
 use Rattle.near.proofs.search.+level_open.Goals.{level-then-fits, level-else-fits}

@@ -1,8 +1,7 @@
 -- `near::search::level` and `near::search::open` meet their contracts. The loop's invariant: the symbols below c are tried. What is left to choose
 -- falls from open to level, and level is above open with as much left.
-use mathlib.Core.Path.{◌≡◌, refl, ap, ◌∙◌}
-use Prim.Native.Nat.{ℕ, suc, ◌+◌, ◌-◌, ◌<◌}
-use lib.ListN.{length, length-set}
+use mathlib.Core.Path.{◌≡◌}
+use Prim.Native.Nat.{suc, ◌+◌, ◌-◌}
 use Rattle.field.specs.Symbols.{symbols}
 use Rattle.near.specs.Search.{lowest}
 use Rattle.near.specs.Work.{curve_of}

@@ -1,12 +1,9 @@
 -- `agreements` meets its contract: the count is that of the places passed. Assumes nothing.
 use mathlib.Core.Path.{◌≡◌, sym, ◌∙◌}
-use mathlib.Core.Logic.{⊎_elim}
-use Prim.Native.Nat.{◌-◌, ◌≤◌}
 use native.Mathlib.Numerals.{add-one}
 use native.Mathlib.Omega.{arith}
 use lib.ListN.{length}
 use borrow.Author.Rules.{rules}
-use Rattle.near.specs.Lists.{polynomial, agreements as agreementsOf}
 use Rattle.near.specs.Work.{task_for}
 use Rattle.near.proofs.Agreements.{agreements-zero}
 use Rattle.near.proofs.search.Keeping.{place_asks, agrees, differs}

@@ -1,14 +1,8 @@
-use mathlib.Core.Path.{◌≡◌, sym, ◌∙◌}
-use mathlib.Core.Logic.{⊎_elim}
+use mathlib.Core.Path.{◌≡◌}
 use Prim.Native.Nat.{◌-◌, ◌≤◌}
-use native.Mathlib.Numerals.{add-one}
-use native.Mathlib.Omega.{arith}
 use lib.ListN.{length}
-use borrow.Author.Rules.{rules}
 use Rattle.near.specs.Lists.{polynomial, agreements as agreementsOf}
 use Rattle.near.specs.Work.{task_for}
-use Rattle.near.proofs.Agreements.{agreements-zero}
-use Rattle.near.proofs.search.Keeping.{place_asks, agrees, differs}
 use Rattle.near.proofs.search.agreements.Given as goal
 
 abbrev pub invariant-loop-s : goal.invariant-loop-s

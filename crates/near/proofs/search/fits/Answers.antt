@@ -1,6 +1,6 @@
 -- `fits` meets its contract: the sum is the value of the slots from j on. Assumes nothing.
 use mathlib.Core.Path.{◌≡◌, sym, ◌∙◌}
-use Prim.Native.Nat.{suc, ◌-◌, ◌≤◌}
+use Prim.Native.Nat.{suc, ◌-◌}
 use native.Mathlib.Numerals.{add-one}
 use borrow.Author.Tests.{eqb-true, eqb-false}
 use borrow.Author.Rules.{rules}

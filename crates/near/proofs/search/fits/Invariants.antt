@@ -1,12 +1,6 @@
-use mathlib.Core.Path.{◌≡◌, sym, ◌∙◌}
-use Prim.Native.Nat.{suc, ◌-◌, ◌≤◌}
-use native.Mathlib.Numerals.{add-one}
-use borrow.Author.Tests.{eqb-true, eqb-false}
-use borrow.Author.Rules.{rules}
-use Rattle.field.specs.Symbols.{symbol, symbols}
-use Rattle.field.proofs.SymbolLaws.{byte-below, byte-zero, zero-is, symbol-byte}
-use Rattle.poly.specs.Polynomials.{value}
-use Rattle.poly.proofs.BufferLaws.{horner, horner-none, horner-more, horner-all}
+use mathlib.Core.Path.{◌≡◌}
+use Prim.Native.Nat.{suc, ◌≤◌}
+use Rattle.poly.proofs.BufferLaws.{horner}
 use Rattle.near.specs.Work.{slice_of}
 use Rattle.near.proofs.search.fits.Given as goal
 

@@ -1,6 +1,5 @@
 -- `keep` meets its contract: it writes the message exactly where `kept` lists it. Assumes nothing.
 use native.Mathlib.Omega.{arith}
-use borrow.Author.Rules.{rules}
 use Rattle.near.proofs.search.Keeping.{kept-none, kept-one, wrote-none, room-one, count-one, wrote-one}
 use Rattle.near.proofs.search.keep.Goals as goal
 

@@ -1,13 +1,9 @@
 -- `lowest` meets its contract: no power of x passed stands. Assumes nothing.
-use mathlib.Core.Path.{◌≡◌, sym, ◌∙◌}
-use mathlib.Core.Bool.{false}
-use Prim.Native.Nat.{ℕ, suc, ◌-◌, ◌≤◌, ◌<◌}
+use mathlib.Core.Path.{sym, ◌∙◌}
+use Prim.Native.Nat.{suc}
 use native.Mathlib.Omega.{arith}
 use borrow.Author.Count.{below_more}
 use borrow.Author.Rules.{rules}
-use Rattle.field.specs.Symbols.{symbols}
-use Rattle.near.specs.Search.{some?}
-use Rattle.near.specs.Work.{slice_of}
 use Rattle.near.proofs.search.LowestPower.{least-at}
 use Rattle.near.proofs.search.lowest.Goals as goal
 

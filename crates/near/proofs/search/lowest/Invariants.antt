@@ -1,13 +1,9 @@
-use mathlib.Core.Path.{◌≡◌, sym, ◌∙◌}
+use mathlib.Core.Path.{◌≡◌}
 use mathlib.Core.Bool.{false}
 use Prim.Native.Nat.{ℕ, suc, ◌-◌, ◌≤◌, ◌<◌}
-use native.Mathlib.Omega.{arith}
-use borrow.Author.Count.{below_more}
-use borrow.Author.Rules.{rules}
 use Rattle.field.specs.Symbols.{symbols}
 use Rattle.near.specs.Search.{some?}
 use Rattle.near.specs.Work.{slice_of}
-use Rattle.near.proofs.search.LowestPower.{least-at}
 use Rattle.near.proofs.search.lowest.Given as goal
 
 abbrev pub invariant-loop-v : goal.invariant-loop-v

@@ -1,9 +1,8 @@
 -- `put` meets its contract: i bytes are written. Assumes nothing.
 use mathlib.Core.Path.{◌≡◌, refl, ap, ◌∙◌}
-use Prim.Native.Nat.{◌-◌, ◌≤◌}
 use native.Mathlib.Omega.{arith}
-use lib.ListN.{length, take}
-use lib.Seq.{sets, length-sets, take-length}
+use lib.ListN.{length}
+use lib.Seq.{length-sets, take-length}
 use borrow.Author.Rules.{rules}
 use Rattle.field.proofs.Lists.{sets-more}
 use Rattle.near.proofs.search.put.Goals as goal

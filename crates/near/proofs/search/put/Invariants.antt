@@ -1,10 +1,7 @@
-use mathlib.Core.Path.{◌≡◌, refl, ap, ◌∙◌}
+use mathlib.Core.Path.{◌≡◌}
 use Prim.Native.Nat.{◌-◌, ◌≤◌}
-use native.Mathlib.Omega.{arith}
 use lib.ListN.{length, take}
-use lib.Seq.{sets, length-sets, take-length}
-use borrow.Author.Rules.{rules}
-use Rattle.field.proofs.Lists.{sets-more}
+use lib.Seq.{sets}
 use Rattle.near.proofs.search.put.Given as goal
 
 abbrev pub invariant-loop-i : goal.invariant-loop-i

@@ -1,9 +1,7 @@
 -- `raise` meets its contract: the slots from j to before q are done. Assumes nothing.
 use mathlib.Core.Path.{◌≡◌}
-use Prim.Native.Nat.{◌-◌, ◌≤◌}
 use native.Mathlib.Numerals.{add-one}
 use borrow.Author.Rules.{rules}
-use Rattle.near.specs.Work.{Lifted}
 use Rattle.near.proofs.search.Shifting.{raised-none, raised-more}
 use Rattle.near.proofs.search.raise.Goals as goal
 

@@ -1,9 +1,5 @@
-use mathlib.Core.Path.{◌≡◌}
 use Prim.Native.Nat.{◌-◌, ◌≤◌}
-use native.Mathlib.Numerals.{add-one}
-use borrow.Author.Rules.{rules}
 use Rattle.near.specs.Work.{Lifted}
-use Rattle.near.proofs.search.Shifting.{raised-none, raised-more}
 use Rattle.near.proofs.search.raise.Given as goal
 
 abbrev pub invariant-loop-q : goal.invariant-loop-q

@@ -1,6 +1,5 @@
 -- `run` meets its contract: the search begins at the first symbol, with nothing found. Assumes nothing.
 use native.Mathlib.Omega.{arith}
-use borrow.Author.Rules.{rules}
 use Rattle.near.proofs.search.Levels.{first_searches, first-room, few, ran}
 use Rattle.near.proofs.search.run.Goals as goal
 

@@ -1,7 +1,7 @@
 -- `shift` meets its contract: the passes down to j are made. Assumes nothing.
 use mathlib.Core.Path.{◌≡◌}
 use borrow.Author.Rules.{rules}
-use Rattle.near.proofs.search.Shifting.{Shifting, shifting-none, shifting-more, shifted}
+use Rattle.near.proofs.search.Shifting.{shifting-none, shifting-more, shifted}
 use Rattle.near.proofs.search.shift.Goals as goal
 
 pub loop-j-init : goal.loop-j-init

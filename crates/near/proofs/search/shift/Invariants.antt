@@ -1,6 +1,4 @@
-use mathlib.Core.Path.{◌≡◌}
-use borrow.Author.Rules.{rules}
-use Rattle.near.proofs.search.Shifting.{Shifting, shifting-none, shifting-more, shifted}
+use Rattle.near.proofs.search.Shifting.{Shifting}
 use Rattle.near.proofs.search.shift.Given as goal
 
 abbrev pub invariant-loop-j : goal.invariant-loop-j

@@ -1,10 +1,10 @@
 -- `stands` meets its contract: nothing stands in the slots passed. Assumes nothing.
-use mathlib.Core.Path.{◌≡◌, sym, ◌∙◌}
-use Prim.Native.Nat.{ℕ, suc, ◌-◌, ◌≤◌, ◌<◌}
+use mathlib.Core.Path.{sym, ◌∙◌}
+use Prim.Native.Nat.{suc}
 use native.Mathlib.Omega.{arith}
 use borrow.Author.Count.{below_more}
 use borrow.Author.Rules.{rules}
-use Rattle.field.specs.Symbols.{symbol, symbols}
+use Rattle.field.specs.Symbols.{symbols}
 use Rattle.field.proofs.SymbolLaws.{byte-zero, zero-is}
 use Rattle.near.specs.Work.{slice_of}
 use Rattle.near.proofs.search.LowestPower.{some-none, some-one}

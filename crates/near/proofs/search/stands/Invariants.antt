@@ -1,12 +1,7 @@
-use mathlib.Core.Path.{◌≡◌, sym, ◌∙◌}
+use mathlib.Core.Path.{◌≡◌}
 use Prim.Native.Nat.{ℕ, suc, ◌-◌, ◌≤◌, ◌<◌}
-use native.Mathlib.Omega.{arith}
-use borrow.Author.Count.{below_more}
-use borrow.Author.Rules.{rules}
-use Rattle.field.specs.Symbols.{symbol, symbols}
-use Rattle.field.proofs.SymbolLaws.{byte-zero, zero-is}
+use Rattle.field.specs.Symbols.{symbol}
 use Rattle.near.specs.Work.{slice_of}
-use Rattle.near.proofs.search.LowestPower.{some-none, some-one}
 use Rattle.near.proofs.search.stands.Given as goal
 
 abbrev pub invariant-loop-j : goal.invariant-loop-j

@@ -2,7 +2,6 @@
 use Prim.Native.Nat.{suc}
 use native.Mathlib.Numerals.{add-one}
 use native.Mathlib.Omega.{arith}
-use borrow.Author.Rules.{rules}
 use Rattle.near.proofs.search.Laying.{place-is, place-slot}
 use Rattle.near.proofs.search.Shifting.{level-inside, subtracts, taken}
 use Rattle.near.proofs.search.take_above.Goals as goal

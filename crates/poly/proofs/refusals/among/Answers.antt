@@ -1,8 +1,5 @@
 -- `refusals::among` meets its contract: no byte passed is x. Assumes nothing.
-use mathlib.Core.Path.{◌≡◌}
-use Prim.Native.Nat.{ℕ, ◌≤◌, ◌<◌, ◌-◌}
 use native.Mathlib.Omega.{arith}
-use lib.ListN.{get_or}
 use borrow.Author.Count.{below_more}
 use borrow.Author.Rules.{rules}
 use Rattle.poly.proofs.TableLaws.{decided-true, decided-false}

@@ -1,10 +1,6 @@
 use mathlib.Core.Path.{◌≡◌}
 use Prim.Native.Nat.{ℕ, ◌≤◌, ◌<◌, ◌-◌}
-use native.Mathlib.Omega.{arith}
 use lib.ListN.{get_or}
-use borrow.Author.Count.{below_more}
-use borrow.Author.Rules.{rules}
-use Rattle.poly.proofs.TableLaws.{decided-true, decided-false}
 use Rattle.poly.proofs.refusals.among.Given as goal
 
 abbrev pub invariant-loop-i : goal.invariant-loop-i

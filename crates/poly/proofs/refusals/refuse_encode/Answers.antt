@@ -4,8 +4,6 @@ use mathlib.Core.Logic.{inl, inr, ⊎_elim}
 use Prim.Native.Nat.{ℕ}
 use native.Mathlib.Omega.{arith}
 use lib.ListN.{length, drop}
-use borrow.Author.Rules.{rules}
-use borrow.Author.Tests.{not-true, not-false}
 use Rattle.field.proofs.SymbolLaws.{is-listed}
 use Rattle.poly.specs.Table.{First, NotListed, BadCount, BadDegree}
 use Rattle.poly.specs.Encode.{encode_table}

@@ -1,7 +1,5 @@
 -- `refusals::too_large` meets its contract: every byte passed is below p. Assumes nothing.
-use Prim.Native.Nat.{ℕ, ◌≤◌, ◌<◌, ◌-◌}
 use native.Mathlib.Omega.{arith}
-use lib.ListN.{length, get_or}
 use borrow.Author.Count.{below_more}
 use borrow.Author.Rules.{rules}
 use Rattle.poly.proofs.TableLaws.{decided-true, decided-false}

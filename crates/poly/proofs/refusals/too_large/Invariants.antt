@@ -1,9 +1,5 @@
 use Prim.Native.Nat.{ℕ, ◌≤◌, ◌<◌, ◌-◌}
-use native.Mathlib.Omega.{arith}
 use lib.ListN.{length, get_or}
-use borrow.Author.Count.{below_more}
-use borrow.Author.Rules.{rules}
-use Rattle.poly.proofs.TableLaws.{decided-true, decided-false}
 use Rattle.poly.proofs.refusals.too_large.Given as goal
 
 abbrev pub invariant-loop-i : goal.invariant-loop-i

@@ -1,6 +1,5 @@
 -- `rows::Note::turn` meets its contract.
 use mathlib.Core.Path.{refl}
-use borrow.Author.Rules.{rules}
 use Rattle.rows.proofs.Going.{turn-ready}
 use Rattle.rows.proofs.Note.turn.Goals as goal
 

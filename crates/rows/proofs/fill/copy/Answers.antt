@@ -1,9 +1,7 @@
 -- `rows::fill::copy` meets its contract. The loop's invariant: the first i bytes are done.
 use mathlib.Core.Path.{◌≡◌, refl, sym}
-use Prim.Native.Nat.{◌-◌, ◌≤◌}
-use lib.ListN.{length, length-set}
+use lib.ListN.{length-set}
 use borrow.Author.Rules.{rules}
-use Rattle.rows.specs.Filling.{copied}
 use Rattle.rows.proofs.fill.Copies.{copied-none, copied-more}
 use Rattle.rows.proofs.fill.copy.Goals as goal
 

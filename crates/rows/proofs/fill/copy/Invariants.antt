@@ -1,9 +1,7 @@
-use mathlib.Core.Path.{◌≡◌, refl, sym}
+use mathlib.Core.Path.{◌≡◌}
 use Prim.Native.Nat.{◌-◌, ◌≤◌}
-use lib.ListN.{length, length-set}
-use borrow.Author.Rules.{rules}
+use lib.ListN.{length}
 use Rattle.rows.specs.Filling.{copied}
-use Rattle.rows.proofs.fill.Copies.{copied-none, copied-more}
 use Rattle.rows.proofs.fill.copy.Given as goal
 
 abbrev pub invariant-loop-i : goal.invariant-loop-i

@@ -1,8 +1,7 @@
 -- `rows::fill::fill` meets its contract. The loop's invariant: the rows before row i are in place, and the bytes from there on are zero.
 use mathlib.Core.Path.{sym}
-use mathlib.Core.Logic.{⊎_elim}
 use mathlib.Core.List.{List}
-use Prim.Native.Nat.{ℕ, suc, ◌-◌, ◌≤◌, ◌<◌}
+use Prim.Native.Nat.{ℕ, ◌-◌, ◌≤◌, ◌<◌}
 use native.Mathlib.Omega.{arith}
 use lib.ListN.{length, take, drop}
 use lib.Seq.{length-take-le}

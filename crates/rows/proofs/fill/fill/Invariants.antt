@@ -1,16 +1,5 @@
-use mathlib.Core.Path.{sym}
-use mathlib.Core.Logic.{⊎_elim}
-use mathlib.Core.List.{List}
-use Prim.Native.Nat.{ℕ, suc, ◌-◌, ◌≤◌, ◌<◌}
-use native.Mathlib.Omega.{arith}
-use lib.ListN.{length, take, drop}
-use lib.Seq.{length-take-le}
-use borrow.Author.Rules.{rules}
-use Rattle.poly.proofs.BufferLaws.{take-rest, untouched-then}
-use Rattle.rows.specs.Bytes.{rows_bytes}
-use Rattle.rows.specs.Filling.{RaisesRow}
-use Rattle.rows.proofs.fill.FilledRows.{RowsFilled, to_fill, filled-none, filled-begins, filled-bare, filled-low, filled-high, filled-all}
-use Rattle.rows.proofs.fill.FilledRows.{h-below, e-below}
+use Prim.Native.Nat.{suc, ◌-◌, ◌≤◌}
+use Rattle.rows.proofs.fill.FilledRows.{RowsFilled, to_fill}
 use Rattle.rows.proofs.fill.fill.Given as goal
 
 abbrev pub invariant-loop-i : goal.invariant-loop-i

@@ -1,9 +1,8 @@
 -- `rows::fill::fill_low` meets its contract. The loop's invariant: row i is (y - h)^q e^(m-i).
-use mathlib.Core.Path.{◌≡◌, ◌∙◌}
-use Prim.Native.Nat.{◌-◌, ◌*◌, ◌≤◌}
+use mathlib.Core.Path.{◌≡◌}
+use Prim.Native.Nat.{◌-◌}
 use native.Mathlib.Omega.{arith}
 use borrow.Author.Rules.{rules}
-use Rattle.rows.specs.Bytes.{slot as slot_of, curve_bytes}
 use Rattle.rows.proofs.fill.LowRows.{slot-fits, LowFilled, row-inside, one_factors, low-one, low-begins, low_factors, low-more, low-all}
 use Rattle.rows.proofs.fill.fill_low.Goals as goal
 

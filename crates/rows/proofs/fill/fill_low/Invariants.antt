@@ -1,9 +1,7 @@
-use mathlib.Core.Path.{◌≡◌, ◌∙◌}
+use mathlib.Core.Path.{◌≡◌}
 use Prim.Native.Nat.{◌-◌, ◌*◌, ◌≤◌}
-use native.Mathlib.Omega.{arith}
-use borrow.Author.Rules.{rules}
 use Rattle.rows.specs.Bytes.{slot as slot_of, curve_bytes}
-use Rattle.rows.proofs.fill.LowRows.{slot-fits, LowFilled, row-inside, one_factors, low-one, low-begins, low_factors, low-more, low-all}
+use Rattle.rows.proofs.fill.LowRows.{LowFilled}
 use Rattle.rows.proofs.fill.fill_low.Given as goal
 
 abbrev pub invariant-loop-q : goal.invariant-loop-q

@@ -2,7 +2,6 @@
 use mathlib.Core.Path.{◌≡◌, ap₂, ◌∙◌}
 use Prim.Native.Nat.{ℕ, ◌+◌, ◌-◌, ◌*◌}
 use native.Mathlib.Omega.{arith}
-use borrow.Author.Rules.{rules}
 use Rattle.rows.specs.Bytes.{slot as slot_of, curve_bytes}
 use Rattle.rows.specs.Filling.{copied}
 use Rattle.rows.proofs.fill.LowRows.{slot-fits}

@@ -3,7 +3,6 @@ use mathlib.Core.Path.{◌≡◌}
 use Prim.Native.Nat.{◌+◌, ◌-◌, ◌*◌, ◌≤◌}
 use native.Mathlib.Nat.{mul-le-mul_right}
 use native.Mathlib.Omega.{arith}
-use borrow.Author.Rules.{rules}
 use Rattle.poly.specs.Buffers.{Factors}
 use Rattle.poly.proofs.BufferLaws.{factors-part, region-part}
 use Rattle.rows.proofs.fill.Slots.{Negated, slot-scales, slot_negated, slot-subtracts, raised-lowest, raised-above}

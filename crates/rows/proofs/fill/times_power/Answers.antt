@@ -1,8 +1,6 @@
 -- `rows::fill::times_power` meets its contract. The loop's invariant: the product with f to the power i is in place.
 use mathlib.Core.Path.{◌≡◌}
-use Prim.Native.Nat.{◌-◌, ◌≤◌}
 use borrow.Author.Rules.{rules}
-use Rattle.rows.specs.Filling.{Power}
 use Rattle.rows.proofs.fill.Slots.{power-none, power-more, power_factors}
 use Rattle.rows.proofs.fill.times_power.Goals as goal
 

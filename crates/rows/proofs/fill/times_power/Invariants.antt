@@ -1,8 +1,5 @@
-use mathlib.Core.Path.{◌≡◌}
 use Prim.Native.Nat.{◌-◌, ◌≤◌}
-use borrow.Author.Rules.{rules}
 use Rattle.rows.specs.Filling.{Power}
-use Rattle.rows.proofs.fill.Slots.{power-none, power-more, power_factors}
 use Rattle.rows.proofs.fill.times_power.Given as goal
 
 abbrev pub invariant-loop-i : goal.invariant-loop-i

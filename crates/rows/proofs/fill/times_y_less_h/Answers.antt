@@ -1,8 +1,7 @@
 -- `rows::fill::times_y_less_h` meets its contract. The loop's invariant: the slots from j on are in place.
 use mathlib.Core.Path.{◌≡◌}
-use Prim.Native.Nat.{◌≤◌}
 use borrow.Author.Rules.{rules}
-use Rattle.rows.proofs.fill.Slots.{Raising, raising-none, raising_factors, raising-more, raising-all}
+use Rattle.rows.proofs.fill.Slots.{raising-none, raising_factors, raising-more, raising-all}
 use Rattle.rows.proofs.fill.times_y_less_h.Goals as goal
 
 pub loop-j-init : goal.loop-j-init

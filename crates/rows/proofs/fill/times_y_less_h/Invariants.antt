@@ -1,7 +1,5 @@
-use mathlib.Core.Path.{◌≡◌}
 use Prim.Native.Nat.{◌≤◌}
-use borrow.Author.Rules.{rules}
-use Rattle.rows.proofs.fill.Slots.{Raising, raising-none, raising_factors, raising-more, raising-all}
+use Rattle.rows.proofs.fill.Slots.{Raising}
 use Rattle.rows.proofs.fill.times_y_less_h.Given as goal
 
 abbrev pub invariant-loop-j : goal.invariant-loop-j

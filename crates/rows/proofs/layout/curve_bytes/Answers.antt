@@ -1,7 +1,6 @@
 -- `rows::layout::curve_bytes` meets its contract.
 use native.Mathlib.Numerals.{add-one}
 use native.Mathlib.Omega.{arith}
-use borrow.Author.Rules.{rules}
 use Rattle.rows.proofs.Placing.{curve-small}
 use Rattle.rows.proofs.layout.curve_bytes.Goals as goal
 

@@ -1,7 +1,6 @@
 -- `rows::layout::rows_bytes` meets its contract.
 use native.Mathlib.Numerals.{add-one}
 use native.Mathlib.Omega.{arith}
-use borrow.Author.Rules.{rules}
 use Rattle.rows.proofs.Placing.{rows-small}
 use Rattle.rows.proofs.layout.rows_bytes.Goals as goal
 

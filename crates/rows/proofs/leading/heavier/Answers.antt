@@ -1,5 +1,4 @@
 -- `rows::leading::heavier` meets its contract.
-use borrow.Author.Rules.{rules}
 use mathlib.Core.Bool.{true≢false}
 use mathlib.Core.Path.{sym, ◌∙◌}
 use native.Mathlib.Omega.{arith}

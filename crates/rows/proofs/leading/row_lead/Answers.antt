@@ -4,13 +4,11 @@ use mathlib.Core.Bool.{true≢false}
 use mathlib.Core.Logic.{inl, inr}
 use Prim.Native.Nat.{ℕ, zero, suc, ◌+◌, ◌-◌, ◌*◌, ◌≤◌, ◌<◌}
 use native.Mathlib.Omega.{arith}
-use borrow.Author.Rules.{rules}
 use Rattle.field.specs.Symbols.{symbols}
 use Rattle.rows.specs.Bytes.{slot as slot_of, curve_bytes, rows_bytes, rows_of}
 use Rattle.rows.specs.Work.{SizeTo}
-use Rattle.rows.specs.declared.Shape.{Shape}
 use Rattle.rows.proofs.Placing.{row-end, place-inside, rows-small, lift-inside, rows_of_boxed}
-use Rattle.rows.proofs.leading.Finding.{FoundFrom, found-all, found-more, slot-above, slot-last}
+use Rattle.rows.proofs.leading.Finding.{found-all, found-more, slot-above, slot-last}
 use Rattle.rows.proofs.leading.row_lead.Goals as goal
 
 pub curve_bytes-requires : goal.curve_bytes-requires

@@ -1,15 +1,8 @@
-use mathlib.Core.Path.{◌≡◌, sym, ap₂}
-use mathlib.Core.Bool.{true≢false}
-use mathlib.Core.Logic.{inl, inr}
-use Prim.Native.Nat.{ℕ, zero, suc, ◌+◌, ◌-◌, ◌*◌, ◌≤◌, ◌<◌}
-use native.Mathlib.Omega.{arith}
-use borrow.Author.Rules.{rules}
+use mathlib.Core.Path.{◌≡◌}
+use Prim.Native.Nat.{suc, ◌*◌, ◌≤◌}
 use Rattle.field.specs.Symbols.{symbols}
-use Rattle.rows.specs.Bytes.{slot as slot_of, curve_bytes, rows_bytes, rows_of}
-use Rattle.rows.specs.Work.{SizeTo}
-use Rattle.rows.specs.declared.Shape.{Shape}
-use Rattle.rows.proofs.Placing.{row-end, place-inside, rows-small, lift-inside, rows_of_boxed}
-use Rattle.rows.proofs.leading.Finding.{FoundFrom, found-all, found-more, slot-above, slot-last}
+use Rattle.rows.specs.Bytes.{slot as slot_of, curve_bytes, rows_of}
+use Rattle.rows.proofs.leading.Finding.{FoundFrom}
 use Rattle.rows.proofs.leading.row_lead.Given as goal
 
 abbrev pub invariant-loop-j : goal.invariant-loop-j

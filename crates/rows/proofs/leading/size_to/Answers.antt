@@ -1,11 +1,10 @@
 -- `rows::leading::size_to` meets its contract. The loop's invariant: the coefficients from x^d on are zero.
 use mathlib.Core.Path.{◌≡◌}
 use mathlib.Core.List.{List}
-use Prim.Native.Nat.{ℕ, suc, ◌+◌, ◌-◌, ◌≤◌}
+use Prim.Native.Nat.{ℕ, ◌+◌, ◌-◌, ◌≤◌}
 use native.Mathlib.Decide.{dec_le}
 use native.Mathlib.Omega.{arith}
 use lib.ListN.{get_or}
-use borrow.Author.Rules.{rules}
 use Rattle.rows.proofs.leading.size_to.Goals as goal
 
 pub loop-d-init : goal.loop-d-init

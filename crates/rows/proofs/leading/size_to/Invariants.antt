@@ -1,9 +1,6 @@
 use mathlib.Core.Path.{◌≡◌}
-use Prim.Native.Nat.{ℕ, suc, ◌+◌, ◌-◌, ◌≤◌}
-use native.Mathlib.Decide.{dec_le}
-use native.Mathlib.Omega.{arith}
+use Prim.Native.Nat.{ℕ, suc, ◌+◌, ◌≤◌}
 use lib.ListN.{get_or}
-use borrow.Author.Rules.{rules}
 use Rattle.rows.proofs.leading.size_to.Given as goal
 
 abbrev pub invariant-loop-d : goal.invariant-loop-d

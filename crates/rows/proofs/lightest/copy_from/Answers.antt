@@ -1,11 +1,8 @@
 -- `rows::lightest::copy_from` meets its contract. The loop's invariant: the first i bytes are done.
 use mathlib.Core.Path.{◌≡◌, refl, sym}
-use Prim.Native.Nat.{◌-◌, ◌≤◌}
 use native.Mathlib.Numerals.{add-one}
 use native.Mathlib.Omega.{arith}
-use lib.ListN.{length, length-set}
-use borrow.Author.Rules.{rules}
-use Rattle.rows.specs.Work.{copied_from}
+use lib.ListN.{length-set}
 use Rattle.rows.proofs.lightest.HandedCurve.{copied-from-none, copied-from-more}
 use Rattle.rows.proofs.lightest.copy_from.Goals as goal
 

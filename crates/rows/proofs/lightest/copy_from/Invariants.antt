@@ -1,11 +1,7 @@
-use mathlib.Core.Path.{◌≡◌, refl, sym}
+use mathlib.Core.Path.{◌≡◌}
 use Prim.Native.Nat.{◌-◌, ◌≤◌}
-use native.Mathlib.Numerals.{add-one}
-use native.Mathlib.Omega.{arith}
-use lib.ListN.{length, length-set}
-use borrow.Author.Rules.{rules}
+use lib.ListN.{length}
 use Rattle.rows.specs.Work.{copied_from}
-use Rattle.rows.proofs.lightest.HandedCurve.{copied-from-none, copied-from-more}
 use Rattle.rows.proofs.lightest.copy_from.Given as goal
 
 abbrev pub invariant-loop-i : goal.invariant-loop-i

@@ -1,13 +1,10 @@
 -- `rows::lightest::find` meets its contract. The loop's invariant: of the rows up to the last one seen, the row kept is the lightest.
 use mathlib.Core.Path.{◌≡◌, refl}
-use mathlib.Core.Logic.{⊎_elim}
 use mathlib.Core.List.{List}
-use Prim.Native.Nat.{ℕ, suc, ◌-◌, ◌≤◌}
+use Prim.Native.Nat.{ℕ, suc, ◌≤◌}
 use native.Mathlib.Omega.{arith}
-use borrow.Author.Rules.{rules}
 use Rattle.field.specs.Symbols.{symbols}
 use Rattle.curves.specs.Curves.{Lead}
-use Rattle.curves.specs.Finish.{Lightest}
 use Rattle.curves.proofs.Least.{lightest-one, lightest-new, lightest-stays}
 use Rattle.rows.specs.Bytes.{rows_of}
 use Rattle.rows.specs.Work.{Whole, LightRow}

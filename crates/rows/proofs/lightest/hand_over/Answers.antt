@@ -1,8 +1,7 @@
 -- `rows::lightest::hand_over` meets its contract.
-use Prim.Native.Nat.{ℕ, ◌+◌, ◌*◌, ◌≤◌, ◌<◌}
+use Prim.Native.Nat.{◌+◌, ◌*◌, ◌≤◌, ◌<◌}
 use native.Mathlib.Omega.{arith}
 use lib.ListN.{length, get_or}
-use borrow.Author.Rules.{rules}
 use Rattle.field.proofs.OperationLaws.{inv_byte-below}
 use Rattle.poly.specs.Limits.{rows_most}
 use Rattle.rows.proofs.lightest.HandedCurve.{row-within, lead-inside, lead-below, hand-region, handed}

@@ -1,8 +1,7 @@
 -- `rows::lightest::height` meets its contract.
-use Prim.Native.Nat.{ℕ, ◌+◌, ◌-◌, ◌*◌, ◌≤◌, ◌<◌}
+use Prim.Native.Nat.{◌+◌, ◌-◌, ◌*◌, ◌≤◌, ◌<◌}
 use native.Mathlib.Omega.{arith}
 use lib.ListN.{length}
-use borrow.Author.Rules.{rules}
 use Rattle.poly.specs.Limits.{rows_most}
 use Rattle.rows.specs.Bytes.{curve_bytes}
 use Rattle.rows.specs.Work.{SizeTo}

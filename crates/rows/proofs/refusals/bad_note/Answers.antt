@@ -3,8 +3,7 @@ use mathlib.Core.Path.{sym, ◌∙◌}
 use mathlib.Core.Logic.{inl, inr}
 use Prim.Native.Nat.{◌+◌}
 use native.Mathlib.Omega.{arith}
-use borrow.Author.Rules.{rules}
-use borrow.Author.Tests.{ltb-true, ltb-false, not-true, not-false}
+use borrow.Author.Tests.{ltb-true, ltb-false}
 use Rattle.field.proofs.SymbolLaws.{is-listed}
 use Rattle.poly.proofs.TableLaws.{decided-true}
 use Rattle.rows.specs.Jobs.{size, count, degree, heights, row}

@@ -4,8 +4,6 @@ use mathlib.Core.Logic.{◌⊎◌, inl, inr, ⊎_elim}
 use Prim.Native.Nat.{ℕ, suc, ◌≤◌, ◌<◌}
 use native.Mathlib.Omega.{arith}
 use lib.ListN.{length, drop}
-use borrow.Author.Rules.{rules}
-use borrow.Author.Tests.{not-true, not-false}
 use Rattle.poly.specs.Table.{First, TooShort}
 use Rattle.poly.specs.Buffers.{Decided}
 use Rattle.rows.specs.Bytes.{curve_bytes, rows_bytes}

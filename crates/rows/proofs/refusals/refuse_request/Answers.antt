@@ -1,15 +1,12 @@
 -- `rows::refusals::refuse_request` meets its contract: it asks in the table's order.
 use mathlib.Core.Path.{refl, sym, ◌∙◌}
 use mathlib.Core.Logic.{inl, inr, ⊎_elim}
-use mathlib.Core.List.{List}
 use Prim.Native.Nat.{ℕ}
 use native.Mathlib.Omega.{arith}
 use lib.ListN.{drop}
-use borrow.Author.Rules.{rules}
-use borrow.Author.Tests.{not-true, not-false}
 use Rattle.field.specs.Operations.{Listed}
 use Rattle.field.proofs.SymbolLaws.{is-listed}
-use Rattle.poly.specs.Table.{Refusal, First}
+use Rattle.poly.specs.Table.{First}
 use Rattle.poly.proofs.TableLaws.{not_unlisted}
 use Rattle.rows.specs.Jobs.{request_table}
 use Rattle.rows.proofs.refusals.refuse_request.Goals as goal

@@ -1,12 +1,11 @@
 -- `rows::refusals::refuse_start` meets its contract: the request's refusals come first, then that of the lent bytes.
 use mathlib.Core.Path.{refl}
 use mathlib.Core.Logic.{inl, inr}
-use mathlib.Core.List.{List}
 use Prim.Native.Nat.{ℕ}
 use native.Mathlib.Omega.{arith}
 use lib.ListN.{length, drop}
 use borrow.Author.Rules.{rules}
-use Rattle.poly.specs.Table.{Refusal, First}
+use Rattle.poly.specs.Table.{First}
 use Rattle.poly.proofs.TableLaws.{first-stops, first-goes}
 use Rattle.rows.specs.Bytes.{shape}
 use Rattle.rows.specs.Jobs.{start_table}

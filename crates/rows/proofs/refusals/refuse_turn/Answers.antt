@@ -2,8 +2,6 @@
 use mathlib.Core.Path.{◌≡◌, refl, sym, ap, subst, ◌∙◌}
 use mathlib.Core.Logic.{inl, inr}
 use native.Mathlib.Omega.{arith}
-use borrow.Author.Rules.{rules}
-use borrow.Author.Tests.{not-true, not-false}
 use Rattle.poly.specs.Table.{TooShort}
 use Rattle.poly.specs.Buffers.{Decided}
 use Rattle.rows.specs.Bytes.{rows_bytes}

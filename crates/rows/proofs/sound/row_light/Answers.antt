@@ -1,16 +1,12 @@
 -- `rows::sound::row_light` meets its contract. The loop's invariant: the slots below j are light.
 use mathlib.Core.Path.{◌≡◌, ap₂}
-use Prim.Native.Nat.{ℕ, suc, ◌+◌, ◌-◌, ◌*◌, ◌≤◌, ◌<◌}
+use Prim.Native.Nat.{ℕ, ◌+◌, ◌-◌, ◌*◌, ◌≤◌}
 use native.Mathlib.Omega.{arith}
-use lib.ListN.{get_or}
 use borrow.Author.Count.{below_more}
-use borrow.Author.Rules.{rules}
-use borrow.Author.Tests.{not-true, not-false}
 use Rattle.poly.specs.Buffers.{Decided}
 use Rattle.poly.proofs.TableLaws.{decided-true, decided-false}
-use Rattle.rows.specs.Bytes.{slot as slot_of, curve_bytes, rows_bytes, place}
+use Rattle.rows.specs.Bytes.{slot as slot_of, curve_bytes, rows_bytes}
 use Rattle.rows.specs.Work.{ZeroBetween}
-use Rattle.rows.specs.declared.Shape.{Shape}
 use Rattle.rows.proofs.Placing.{slot-end, row-end, rows-small, lift-inside}
 use Rattle.rows.proofs.sound.Soundness.{slot-light, light-slot}
 use Rattle.rows.proofs.sound.row_light.Goals as goal

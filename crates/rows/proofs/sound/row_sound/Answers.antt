@@ -4,7 +4,6 @@ use Prim.Native.Nat.{ℕ, suc, ◌+◌, ◌*◌, ◌≤◌, ◌<◌, max}
 use native.Mathlib.Nat.{mul-le-mul}
 use native.Mathlib.Numerals.{add-one}
 use native.Mathlib.Omega.{arith}
-use borrow.Author.Rules.{rules}
 use borrow.Author.Tests.{not-true, not-false}
 use Rattle.field.specs.Symbols.{symbols}
 use Rattle.poly.specs.Limits.{height_most, width_most}
@@ -14,7 +13,6 @@ use Rattle.curves.specs.Curves.{Height, Lead, LeadsAt}
 use Rattle.curves.proofs.Leads.{lead-nonzero, lead_unique}
 use Rattle.rows.specs.Bytes.{slot as slot_of, curve_bytes, rows_bytes, rows_of}
 use Rattle.rows.specs.Work.{LightRow, ZeroBetween, SoundRow}
-use Rattle.rows.specs.declared.Shape.{Shape}
 use Rattle.rows.proofs.Placing.{row-end, rows-small, light-row, light-curve}
 use Rattle.rows.proofs.sound.Soundness.{height-zero, zero-height}
 use Rattle.rows.proofs.sound.row_sound.Goals as goal

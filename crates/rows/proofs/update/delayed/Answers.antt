@@ -1,5 +1,4 @@
 -- `rows::update::delayed` meets its contract.
-use borrow.Author.Rules.{rules}
 use borrow.Author.Tests.{le-leb, lt-leb}
 use Rattle.rows.proofs.update.delayed.Goals as goal
 

@@ -1,7 +1,6 @@
 -- `rows::update::ratio` meets its contract.
 use mathlib.Core.Path.{◌∙◌}
 use native.Mathlib.Omega.{arith}
-use borrow.Author.Rules.{rules}
 use Rattle.field.proofs.OperationLaws.{inv_byte-below}
 use Rattle.rows.proofs.Placing.{place-inside, place-below}
 use Rattle.rows.proofs.update.CrossedRows.{place_r, place-s, ratio-byte}

@@ -1,9 +1,7 @@
 -- `rows::update::slot_vanishes` meets its contract. The loop's invariant: the coefficients below x^e are zero.
 use mathlib.Core.Path.{◌≡◌, sym, ◌∙◌}
-use Prim.Native.Nat.{ℕ, suc, ◌-◌, ◌≤◌, ◌<◌}
 use native.Mathlib.Omega.{arith}
 use borrow.Author.Count.{below_more}
-use borrow.Author.Rules.{rules}
 use Rattle.field.specs.Operations.{minus_bytes, times_bytes}
 use Rattle.field.proofs.OperationLaws.{times_bytes-below}
 use Rattle.poly.proofs.TableLaws.{decided-true, decided-false}

@@ -1,13 +1,7 @@
-use mathlib.Core.Path.{◌≡◌, sym, ◌∙◌}
+use mathlib.Core.Path.{◌≡◌}
 use Prim.Native.Nat.{ℕ, suc, ◌-◌, ◌≤◌, ◌<◌}
-use native.Mathlib.Omega.{arith}
-use borrow.Author.Count.{below_more}
-use borrow.Author.Rules.{rules}
 use Rattle.field.specs.Operations.{minus_bytes, times_bytes}
-use Rattle.field.proofs.OperationLaws.{times_bytes-below}
-use Rattle.poly.proofs.TableLaws.{decided-true, decided-false}
 use Rattle.rows.specs.Work.{delayed_byte}
-use Rattle.rows.proofs.update.Vanishing.{delayed-below}
 use Rattle.rows.proofs.update.slot_vanishes.Given as goal
 
 abbrev pub invariant-loop-e : goal.invariant-loop-e

@@ -1,10 +1,7 @@
 -- `rows::update::swap` meets its contract. The loop's invariant: the first i bytes of each run have changed places.
 use mathlib.Core.Path.{◌≡◌}
-use Prim.Native.Nat.{◌-◌, ◌≤◌}
 use native.Mathlib.Omega.{arith}
 use lib.ListN.{length-set}
-use borrow.Author.Rules.{rules}
-use Rattle.rows.specs.Work.{Exchanged}
 use Rattle.rows.proofs.update.Exchanging.{exchanged-none, exchanged-more}
 use Rattle.rows.proofs.update.swap.Goals as goal
 

@@ -1,10 +1,5 @@
-use mathlib.Core.Path.{◌≡◌}
 use Prim.Native.Nat.{◌-◌, ◌≤◌}
-use native.Mathlib.Omega.{arith}
-use lib.ListN.{length-set}
-use borrow.Author.Rules.{rules}
 use Rattle.rows.specs.Work.{Exchanged}
-use Rattle.rows.proofs.update.Exchanging.{exchanged-none, exchanged-more}
 use Rattle.rows.proofs.update.swap.Given as goal
 
 abbrev pub invariant-loop-i : goal.invariant-loop-i

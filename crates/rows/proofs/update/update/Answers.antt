@@ -1,8 +1,7 @@
 -- `rows::update::update` meets its contract: the kernels leave the bytes of the update.
 use mathlib.Core.Path.{◌≡◌}
-use Prim.Native.Nat.{ℕ, ◌+◌, ◌*◌, ◌≤◌, ◌<◌}
+use Prim.Native.Nat.{◌+◌, ◌*◌, ◌≤◌, ◌<◌}
 use native.Mathlib.Omega.{arith}
-use borrow.Author.Rules.{rules}
 use Rattle.field.proofs.OperationLaws.{neg_byte-below}
 use Rattle.poly.specs.Limits.{rows_most}
 use Rattle.rows.specs.Bytes.{curve_bytes}

@@ -1,18 +1,12 @@
 -- `rows::update::vanishes` meets its contract. The loop's invariant: the slots below j of the new row are zero.
 use mathlib.Core.Path.{◌≡◌, ap₂}
-use Prim.Native.Nat.{ℕ, suc, ◌+◌, ◌-◌, ◌*◌, ◌≤◌, ◌<◌}
+use Prim.Native.Nat.{ℕ, ◌+◌, ◌*◌, ◌≤◌, ◌<◌}
 use native.Mathlib.Omega.{arith}
 use borrow.Author.Count.{below_more}
-use borrow.Author.Rules.{rules}
-use borrow.Author.Tests.{not-true, not-false}
-use Rattle.field.specs.Symbols.{symbol, symbols}
 use Rattle.poly.specs.Limits.{rows_most}
 use Rattle.poly.specs.Buffers.{Decided}
 use Rattle.poly.proofs.TableLaws.{decided-true, decided-false}
-use Rattle.curves.specs.Turns.{cross}
-use Rattle.rows.specs.Bytes.{slot as slot_of, curve_bytes, rows_of}
-use Rattle.rows.specs.Work.{leads_ratio}
-use Rattle.rows.specs.declared.Shape.{Shape}
+use Rattle.rows.specs.Bytes.{slot as slot_of, curve_bytes}
 use Rattle.rows.proofs.Placing.{slot-end, row-end, rows-small}
 use Rattle.rows.proofs.update.CrossedRows.{ratio-below}
 use Rattle.rows.proofs.update.Vanishing.{Vanishing, vanishing-is, slot-zero, zero-slot, row-zero, slot-region}

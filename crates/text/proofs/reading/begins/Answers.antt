@@ -1,11 +1,9 @@
 -- `text::reading::begins` meets its contract. The loop's invariant: the bytes passed are the key's.
 use mathlib.Core.Path.{◌≡◌}
 use mathlib.Core.Bool.{false≢true, true≢false}
-use Prim.Native.Nat.{ℕ, ◌≤◌, ◌-◌, ◌+◌, ◌<◌}
 use native.Mathlib.Omega.{arith}
 use borrow.Author.Count.{below_more}
-use borrow.Author.Rules.{rules}
-use lib.ListN.{length, get_or}
+use lib.ListN.{length}
 use Rattle.text.proofs.Seeking.{key-stands, key-bytes, key-room}
 use Rattle.text.proofs.reading.begins.Goals as goal
 

@@ -1,11 +1,6 @@
 use mathlib.Core.Path.{◌≡◌}
-use mathlib.Core.Bool.{false≢true, true≢false}
 use Prim.Native.Nat.{ℕ, ◌≤◌, ◌-◌, ◌+◌, ◌<◌}
-use native.Mathlib.Omega.{arith}
-use borrow.Author.Count.{below_more}
-use borrow.Author.Rules.{rules}
 use lib.ListN.{length, get_or}
-use Rattle.text.proofs.Seeking.{key-stands, key-bytes, key-room}
 use Rattle.text.proofs.reading.begins.Given as goal
 
 abbrev pub invariant-loop-i : goal.invariant-loop-i

@@ -2,7 +2,6 @@
 use mathlib.Core.Path.{◌∙◌}
 use mathlib.Core.Bool.{false≢true, true≢false}
 use native.Mathlib.Omega.{arith}
-use borrow.Author.Rules.{rules}
 use Rattle.text.proofs.Seeking.{key-room}
 use Rattle.text.proofs.StandingLines.{stands, stands_not}
 use Rattle.text.proofs.Grammar.{line-flat}

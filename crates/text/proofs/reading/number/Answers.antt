@@ -1,17 +1,15 @@
 -- `text::reading::number` meets its contract. The loop's invariant: the bytes passed are digits, and `value` is what they write, below 10 to the
 -- power of their count.
 use mathlib.Core.Path.{◌≡◌, refl, sym, ◌∙◌}
-use mathlib.Core.Logic.{⊎_elim}
 use mathlib.Core.Bool.{false, false≢true, true≢false}
 use mathlib.Core.List.{List}
-use Prim.Native.Nat.{ℕ, ◌≤◌, ◌-◌, ◌^◌, ◌<◌}
+use Prim.Native.Nat.{ℕ, ◌^◌, ◌<◌}
 use native.Mathlib.Nat.{pow-le-pow_right, pow-suc}
 use native.Mathlib.Numerals.{add-one}
 use native.Mathlib.Omega.{arith}
 use borrow.Author.Count.{below_more}
-use borrow.Author.Tests.{ltb-true, ltb-false}
-use borrow.Author.Rules.{rules}
-use lib.ListN.{length, get_or}
+use borrow.Author.Tests.{ltb-false}
+use lib.ListN.{length}
 use Rattle.text.specs.Requests.{number_of, Number}
 use Rattle.text.specs.Reading.{Meant}
 use Rattle.text.proofs.reading.number.Goals as goal

@@ -1,17 +1,7 @@
-use mathlib.Core.Path.{◌≡◌, refl, sym, ◌∙◌}
-use mathlib.Core.Logic.{⊎_elim}
-use mathlib.Core.Bool.{false, false≢true, true≢false}
-use mathlib.Core.List.{List}
+use mathlib.Core.Path.{◌≡◌}
 use Prim.Native.Nat.{ℕ, ◌≤◌, ◌-◌, ◌^◌, ◌<◌}
-use native.Mathlib.Nat.{pow-le-pow_right, pow-suc}
-use native.Mathlib.Numerals.{add-one}
-use native.Mathlib.Omega.{arith}
-use borrow.Author.Count.{below_more}
-use borrow.Author.Tests.{ltb-true, ltb-false}
-use borrow.Author.Rules.{rules}
 use lib.ListN.{length, get_or}
-use Rattle.text.specs.Requests.{number_of, Number}
-use Rattle.text.specs.Reading.{Meant}
+use Rattle.text.specs.Requests.{number_of}
 use Rattle.text.proofs.reading.number.Given as goal
 
 abbrev pub invariant-loop-i : goal.invariant-loop-i

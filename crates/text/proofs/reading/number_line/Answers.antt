@@ -1,7 +1,6 @@
 -- `text::reading::number_line` meets its contract: the line that stands at `at`, and the number that its value is.
 use native.Mathlib.Omega.{arith}
 use borrow.Author.Tests.{not-true, not-false}
-use borrow.Author.Rules.{rules}
 use Rattle.text.specs.Reading.{Stands}
 use Rattle.text.proofs.Grammar.{number_plain}
 use Rattle.text.proofs.StandingLines.{takes-none, takes}

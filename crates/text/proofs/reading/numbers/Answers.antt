@@ -1,10 +1,7 @@
 -- `text::reading::numbers` meets its contract. The loop's invariant, `SoFar`: the numbers read so far and those of the rest are those of the whole.
-use Prim.Native.Nat.{◌-◌}
 use native.Mathlib.Omega.{arith}
 use borrow.Author.Tests.{not-true, not-false}
-use borrow.Author.Rules.{rules}
-use Rattle.poly.specs.Limits.{field_most}
-use Rattle.text.proofs.Items.{SoFar, none_yet, more_items, last_item, no_item, too-many}
+use Rattle.text.proofs.Items.{none_yet, more_items, last_item, no_item, too-many}
 use Rattle.text.proofs.reading.numbers.Goals as goal
 
 pub loop-count-init : goal.loop-count-init

@@ -1,9 +1,6 @@
 use Prim.Native.Nat.{◌-◌}
-use native.Mathlib.Omega.{arith}
-use borrow.Author.Tests.{not-true, not-false}
-use borrow.Author.Rules.{rules}
 use Rattle.poly.specs.Limits.{field_most}
-use Rattle.text.proofs.Items.{SoFar, none_yet, more_items, last_item, no_item, too-many}
+use Rattle.text.proofs.Items.{SoFar}
 use Rattle.text.proofs.reading.numbers.Given as goal
 
 abbrev pub invariant-loop-count : goal.invariant-loop-count

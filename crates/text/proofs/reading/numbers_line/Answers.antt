@@ -2,7 +2,6 @@
 use mathlib.Core.Bool.{false≢true}
 use native.Mathlib.Omega.{arith}
 use borrow.Author.Tests.{not-true, not-false}
-use borrow.Author.Rules.{rules}
 use Rattle.text.specs.Reading.{Stands}
 use Rattle.text.proofs.Grammar.{listed_plain}
 use Rattle.text.proofs.StandingLines.{takes-none, takes}

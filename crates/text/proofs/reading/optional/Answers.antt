@@ -1,6 +1,5 @@
 -- `text::reading::optional` meets its contract: an empty text means `other`, and any other text is a number or nothing.
 use mathlib.Core.Bool.{true≢false}
-use borrow.Author.Rules.{rules}
 use Rattle.text.specs.Requests.Optional.{given}
 use Rattle.text.proofs.Numbers.{optional-empty, optional-given}
 use Rattle.text.proofs.reading.optional.Goals as goal

@@ -1,7 +1,6 @@
 -- `text::reading::optional_line` meets its contract: the line that stands at `at`, and the number that its value is or means when empty.
 use native.Mathlib.Omega.{arith}
 use borrow.Author.Tests.{not-true, not-false}
-use borrow.Author.Rules.{rules}
 use Rattle.text.specs.Reading.{Stands}
 use Rattle.text.proofs.Grammar.{optional_plain}
 use Rattle.text.proofs.StandingLines.{takes-none, takes}

@@ -1,10 +1,6 @@
 -- `text::reading::seek` meets its contract. The loop's invariant: b stands at no place passed.
-use mathlib.Core.Path.{◌≡◌}
-use Prim.Native.Nat.{ℕ, ◌≤◌, ◌-◌, ◌<◌}
 use native.Mathlib.Omega.{arith}
 use borrow.Author.Count.{below_more}
-use borrow.Author.Rules.{rules}
-use lib.ListN.{length, get_or}
 use Rattle.text.proofs.Seeking.{part-free}
 use Rattle.text.proofs.reading.seek.Goals as goal
 

@@ -1,10 +1,6 @@
 use mathlib.Core.Path.{◌≡◌}
 use Prim.Native.Nat.{ℕ, ◌≤◌, ◌-◌, ◌<◌}
-use native.Mathlib.Omega.{arith}
-use borrow.Author.Count.{below_more}
-use borrow.Author.Rules.{rules}
 use lib.ListN.{length, get_or}
-use Rattle.text.proofs.Seeking.{part-free}
 use Rattle.text.proofs.reading.seek.Given as goal
 
 abbrev pub invariant-loop-to : goal.invariant-loop-to

@@ -1,5 +1,4 @@
 -- `text::writing::put_byte` meets its contract.
-use borrow.Author.Rules.{rules}
 use Rattle.text.proofs.Puts.{put-one}
 use Rattle.text.proofs.writing.put_byte.Goals as goal
 

@@ -1,14 +1,12 @@
 -- `text::writing::put_bytes` meets its contract. The loop's invariant: the first i bytes were put.
 use mathlib.Core.Path.{◌≡◌}
 use mathlib.Core.List.{[], ◌∷◌, ◌++◌}
-use Prim.Native.Nat.{◌+◌, ◌-◌, ◌≤◌}
+use Prim.Native.Nat.{◌+◌}
 use native.Mathlib.Nat.{add-zero}
 use native.Mathlib.Numerals.{add-one}
 use native.Mathlib.Omega.{arith}
-use borrow.Author.Rules.{rules}
-use lib.ListN.{length, get_or, take}
+use lib.ListN.{get_or, take}
 use lib.Seq.{take-suc, take_all}
-use Rattle.text.specs.Writing.{Put}
 use Rattle.text.proofs.Puts.{put-nothing, put-one, put-join, put_bound, put-long}
 use Rattle.text.proofs.writing.put_bytes.Goals as goal
 

@@ -1,14 +1,6 @@
-use mathlib.Core.Path.{◌≡◌}
-use mathlib.Core.List.{[], ◌∷◌, ◌++◌}
 use Prim.Native.Nat.{◌+◌, ◌-◌, ◌≤◌}
-use native.Mathlib.Nat.{add-zero}
-use native.Mathlib.Numerals.{add-one}
-use native.Mathlib.Omega.{arith}
-use borrow.Author.Rules.{rules}
-use lib.ListN.{length, get_or, take}
-use lib.Seq.{take-suc, take_all}
+use lib.ListN.{length, take}
 use Rattle.text.specs.Writing.{Put}
-use Rattle.text.proofs.Puts.{put-nothing, put-one, put-join, put_bound, put-long}
 use Rattle.text.proofs.writing.put_bytes.Given as goal
 
 abbrev pub invariant-loop-i : goal.invariant-loop-i

@@ -1,6 +1,5 @@
 -- `text::writing::put_item` meets its contract: with or without the comma.
 use native.Mathlib.Omega.{arith}
-use borrow.Author.Rules.{rules}
 use Rattle.text.proofs.Puts.{put-join, put_bound, comma-first, comma-next}
 use Rattle.text.proofs.writing.put_item.Goals as goal
 

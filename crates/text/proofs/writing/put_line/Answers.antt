@@ -1,5 +1,4 @@
 -- `text::writing::put_line` meets its contract: the key, the number and the line feed.
-use borrow.Author.Rules.{rules}
 use Rattle.text.proofs.Puts.{put-join}
 use Rattle.text.proofs.writing.put_line.Goals as goal
 

@@ -1,6 +1,5 @@
 -- `text::writing::put_message` meets its contract: the key, the symbols and the line feed.
 use native.Mathlib.Omega.{arith}
-use borrow.Author.Rules.{rules}
 use Rattle.text.proofs.Puts.{put-join, put_bound}
 use Rattle.text.proofs.writing.put_message.Goals as goal
 

@@ -1,12 +1,10 @@
 -- `text::writing::put_messages` meets its contract. The loop's invariant: the first i lines were put.
 use mathlib.Core.Path.{◌≡◌}
-use Prim.Native.Nat.{ℕ, ◌+◌, ◌-◌, ◌*◌, ◌≤◌, ◌<◌}
+use Prim.Native.Nat.{ℕ, ◌+◌, ◌*◌, ◌≤◌, ◌<◌}
 use native.Mathlib.Nat.{mul-le-mul_right}
 use native.Mathlib.Omega.{arith}
-use borrow.Author.Rules.{rules}
 use lib.ListN.{length}
 use Rattle.text.specs.Answers.{message_lines}
-use Rattle.text.specs.Writing.{Put}
 use Rattle.text.proofs.Seeking.{part-long}
 use Rattle.text.proofs.Puts.{put-nothing, put_bound, put-long, put-more}
 use Rattle.text.proofs.writing.put_messages.Goals as goal

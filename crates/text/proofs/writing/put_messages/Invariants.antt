@@ -1,13 +1,6 @@
-use mathlib.Core.Path.{◌≡◌}
-use Prim.Native.Nat.{ℕ, ◌+◌, ◌-◌, ◌*◌, ◌≤◌, ◌<◌}
-use native.Mathlib.Nat.{mul-le-mul_right}
-use native.Mathlib.Omega.{arith}
-use borrow.Author.Rules.{rules}
-use lib.ListN.{length}
+use Prim.Native.Nat.{◌+◌, ◌-◌, ◌*◌, ◌≤◌}
 use Rattle.text.specs.Answers.{message_lines}
 use Rattle.text.specs.Writing.{Put}
-use Rattle.text.proofs.Seeking.{part-long}
-use Rattle.text.proofs.Puts.{put-nothing, put_bound, put-long, put-more}
 use Rattle.text.proofs.writing.put_messages.Given as goal
 
 abbrev pub invariant-loop-i : goal.invariant-loop-i

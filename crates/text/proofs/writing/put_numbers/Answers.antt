@@ -1,12 +1,9 @@
 -- `text::writing::put_numbers` meets its contract. The loop's invariant: the first i numbers were put.
 use mathlib.Core.Path.{◌≡◌}
-use Prim.Native.Nat.{◌-◌, ◌*◌, ◌≤◌}
 use native.Mathlib.Numerals.{add-one}
 use native.Mathlib.Omega.{arith}
-use borrow.Author.Rules.{rules}
 use lib.ListN.{length}
 use Rattle.text.specs.Answers.{joined}
-use Rattle.text.specs.Writing.{Put}
 use Rattle.text.proofs.Puts.{put-nothing, put-join, put_bound, put-long}
 use Rattle.text.proofs.writing.put_numbers.Goals as goal
 
