@@ -1,20 +1,23 @@
 // Reads a request, and prints the answer with the messages near the received word.
 #![tactic(auto)]
 
-ghost use Rattle.std.specs.Prelude.{◌≤◌, length, IfOk};
+ghost use Rattle.std.specs.Prelude.{◌≤◌, ◌<◌, length, take, IfOk};
+ghost use Rattle.std.specs.Io.KnownBytes.{Consumes, IsAtEnd};
 
 use std::io;
 use std::io::Read;
 
 // Reads until the buffer is full or the input ends; how many bytes it put at the beginning of the buffer.
-fn read_full(input: &mut impl Read, buffer: &mut [u8]) -> io::Result<usize>
-    ensures { IfOk result (λ got. got ≤ length buffer.new) }
+fn read_full<R: Read>(input: &mut R, buffer: &mut [u8]) -> io::Result<usize>
+    ensures bound { IfOk result (λ got. got ≤ length buffer.new) }
+    ensures bytes { IfOk result (λ got. Consumes (R.remaining input.old) (R.remaining input.new) (take got buffer.new)) }
+    ensures end { IfOk result (λ got. got < length buffer.new → IsAtEnd (R.remaining input.new)) }
 {
     let mut got = 0;
     while got < buffer.len() {
         let more = input.read(&mut buffer[got..])?;
         if more == 0 {
-            break;
+            return Ok(got);
         }
         got += more;
     }
