@@ -16,8 +16,8 @@ fn spaced(rt: &impl Print, number: u64) -> io::Result<()> {
 }
 
 // A name, and the numbers after it.
-fn show(rt: &impl Print, name: &str, numbers: &[u8]) -> io::Result<()> {
-    rt.print(name)?;
+fn show(rt: &impl Print, name: &[u8], numbers: &[u8]) -> io::Result<()> {
+    rt.write_all(name)?;
     for number in numbers {
         spaced(rt, wide(*number))?;
     }
@@ -28,8 +28,8 @@ fn show_updates(rt: &impl Print, updates: u16) -> io::Result<()> {
     println!(rt; "  updates {updates}")
 }
 
-fn show_departure(rt: &impl Print, name: &str, departure: Departure) -> io::Result<()> {
-    rt.print(name)?;
+fn show_departure(rt: &impl Print, name: &[u8], departure: Departure) -> io::Result<()> {
+    rt.write_all(name)?;
     spaced(rt, wide(departure.boat))?;
     spaced(rt, departure.day as u64)?;
     spaced(rt, departure.minute as u64)?;
@@ -57,9 +57,9 @@ fn encode(
     word: &mut [u8],
 ) -> io::Result<()> {
     let number = poly::encode(p, points, message, word);
-    show(rt, "  message", message)?;
-    show(rt, "  encode", &[number])?;
-    show(rt, "  word", word)
+    show(rt, b"  message", message)?;
+    show(rt, b"  encode", &[number])?;
+    show(rt, b"  word", word)
 }
 
 // Start, a turn, finish.
@@ -80,12 +80,12 @@ fn interpolate(
     let finished = rows::finish(turned.note, lent, &mut curve);
     show(
         rt,
-        "  start turn finish",
+        b"  start turn finish",
         &[started.number, turned.number, finished.number],
     )?;
     show_updates(rt, turned.updates)?;
-    show(rt, "  weight height", &[finished.weight, finished.height])?;
-    show(rt, "  curve", &curve)
+    show(rt, b"  weight height", &[finished.weight, finished.height])?;
+    show(rt, b"  curve", &curve)
 }
 
 fn list(
@@ -101,10 +101,10 @@ fn list(
     let mut room = [0u8; WORKING_ROOM];
     let mut messages = [0u8; 9];
     let near = near::list(p, points, word, k, m, l, t, &mut room, &mut messages);
-    show(rt, "  list", &[near.number])?;
+    show(rt, b"  list", &[near.number])?;
     show_updates(rt, near.updates)?;
-    show(rt, "  weight count", &[near.weight, near.count])?;
-    show(rt, "  messages", &messages)
+    show(rt, b"  weight count", &[near.weight, near.count])?;
+    show(rt, b"  messages", &messages)
 }
 
 // A message and a received word at the points 1, 2, 3.
@@ -125,9 +125,9 @@ fn three(
     digits(word, &mut received);
     let mut lent = [0u8; 63];
     let mut encoded = [0u8; 6];
-    show(rt, "p k m l t", &[p, k, m, l, t])?;
+    show(rt, b"p k m l t", &[p, k, m, l, t])?;
     encode(rt, p, &points, &sent, &mut encoded)?;
-    show(rt, "  received", &received)?;
+    show(rt, b"  received", &received)?;
     interpolate(rt, p, &points, &received, k, m, l, &mut lent)?;
     list(rt, p, &points, &received, k, m, l, t)
 }
@@ -142,9 +142,9 @@ fn example_19(rt: &impl Print, message: u32, t: u8) -> io::Result<()> {
     let mut lent = [0u8; 240];
     let mut less = [0u8; 239];
     let mut encoded = [0u8; 6];
-    show(rt, "example 19, t", &[t])?;
+    show(rt, b"example 19, t", &[t])?;
     encode(rt, 7, &points, &sent, &mut encoded)?;
-    show(rt, "  received", &received)?;
+    show(rt, b"  received", &received)?;
     interpolate(rt, 7, &points, &received, 3, 2, 3, &mut lent)?;
     interpolate(rt, 7, &points, &received, 3, 2, 3, &mut less)?;
     list(rt, 7, &points, &received, 3, 2, 3, t)
@@ -160,10 +160,10 @@ fn sixteen(
 ) -> io::Result<()> {
     let mut lent = [0u8; 162];
     let mut encoded = [0u8; 16];
-    show(rt, "field 16, t", &[t])?;
-    show(rt, "  points", points)?;
+    show(rt, b"field 16, t", &[t])?;
+    show(rt, b"  points", points)?;
     encode(rt, 16, points, message, &mut encoded)?;
-    show(rt, "  received", received)?;
+    show(rt, b"  received", received)?;
     interpolate(rt, 16, points, received, 2, 1, 2, &mut lent)?;
     list(rt, 16, points, received, 2, 1, 2, t)
 }
@@ -175,9 +175,9 @@ fn depart(rt: &impl Print, boat: u8, day: u16, minute: u16) -> io::Result<()> {
     let written = departures::write(departure, &mut message);
     let mut time = [b'-', b'-', b':', b'-', b'-'];
     let shown = departures::show(departure, &mut time);
-    show_departure(rt, "boat day minute", departure)?;
-    show(rt, "  write show", &[written, shown])?;
-    show(rt, "  message", &message)?;
+    show_departure(rt, b"boat day minute", departure)?;
+    show(rt, b"  write show", &[written, shown])?;
+    show(rt, b"  message", &message)?;
     rt.write_all(b"  time ")?;
     rt.write_all(&time)?;
     rt.write_all(b"\n")
@@ -186,9 +186,9 @@ fn depart(rt: &impl Print, boat: u8, day: u16, minute: u16) -> io::Result<()> {
 fn read(rt: &impl Print, message: &[u8]) -> io::Result<()> {
     let reading = departures::read(message);
     let departure = reading.departure;
-    show(rt, "message", message)?;
-    show(rt, "  read", &[reading.number])?;
-    show_departure(rt, "  boat day minute", departure)
+    show(rt, b"message", message)?;
+    show(rt, b"  read", &[reading.number])?;
+    show_departure(rt, b"  boat day minute", departure)
 }
 
 fn main(rt: HostRuntime) -> io::Result<()> {

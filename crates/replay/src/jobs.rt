@@ -14,8 +14,8 @@ pub fn encode(
     word: &mut [u8],
 ) -> io::Result<()> {
     let number = poly::encode(p, points, message, word);
-    printing::byte(rt, "encode", number)?;
-    printing::bytes(rt, " word", word)?;
+    printing::byte(rt, b"encode", number)?;
+    printing::bytes(rt, b" word", word)?;
     printing::end(rt)
 }
 
@@ -30,24 +30,24 @@ pub fn start(
     rows: &mut [u8],
 ) -> io::Result<Note> {
     let started = rows::start(p, points, word, k, m, l, rows);
-    printing::byte(rt, "start", started.number)?;
+    printing::byte(rt, b"start", started.number)?;
     printing::note(rt, started.note)?;
-    printing::sum(rt, " rows", rows)?;
+    printing::sum(rt, b" rows", rows)?;
     printing::end(rt)?;
     Ok(started.note)
 }
 
-fn print_turned(rt: &impl Print, name: &str, turned: Turned, rows: &[u8]) -> io::Result<()> {
+fn print_turned(rt: &impl Print, name: &[u8], turned: Turned, rows: &[u8]) -> io::Result<()> {
     printing::byte(rt, name, turned.number)?;
     printing::note(rt, turned.note)?;
-    printing::number(rt, " updates", turned.updates as u64)?;
-    printing::sum(rt, " rows", rows)?;
+    printing::number(rt, b" updates", turned.updates as u64)?;
+    printing::sum(rt, b" rows", rows)?;
     printing::end(rt)
 }
 
 pub fn turn(rt: &impl Print, note: Note, rows: &mut [u8], allowance: u16) -> io::Result<Note> {
     let turned = note.turn(rows, allowance);
-    print_turned(rt, "turn", turned, rows)?;
+    print_turned(rt, b"turn", turned, rows)?;
     Ok(turned.note)
 }
 
@@ -70,16 +70,16 @@ pub fn turn_in_place(
     allowance: u16,
 ) -> io::Result<Note> {
     let turned = own_turn(note, rows, allowance);
-    print_turned(rt, "turn_in_place", turned, rows)?;
+    print_turned(rt, b"turn_in_place", turned, rows)?;
     Ok(turned.note)
 }
 
 pub fn finish(rt: &impl Print, note: Note, rows: &[u8], curve: &mut [u8]) -> io::Result<()> {
     let finished = rows::finish(note, rows, curve);
-    printing::byte(rt, "finish", finished.number)?;
-    printing::byte(rt, " weight", finished.weight)?;
-    printing::byte(rt, " height", finished.height)?;
-    printing::sum(rt, " curve", curve)?;
+    printing::byte(rt, b"finish", finished.number)?;
+    printing::byte(rt, b" weight", finished.weight)?;
+    printing::byte(rt, b" height", finished.height)?;
+    printing::sum(rt, b" curve", curve)?;
     printing::end(rt)
 }
 
@@ -96,12 +96,12 @@ pub fn list(
     messages: &mut [u8],
 ) -> io::Result<()> {
     let near = near::list(p, points, word, k, m, l, t, room, messages);
-    printing::byte(rt, "list", near.number)?;
-    printing::byte(rt, " count", near.count)?;
-    printing::number(rt, " updates", near.updates as u64)?;
-    printing::byte(rt, " weight", near.weight)?;
-    printing::sum(rt, " room", room)?;
-    printing::bytes(rt, " messages", messages)?;
+    printing::byte(rt, b"list", near.number)?;
+    printing::byte(rt, b" count", near.count)?;
+    printing::number(rt, b" updates", near.updates as u64)?;
+    printing::byte(rt, b" weight", near.weight)?;
+    printing::sum(rt, b" room", room)?;
+    printing::bytes(rt, b" messages", messages)?;
     printing::end(rt)
 }
 
@@ -109,36 +109,36 @@ pub fn list(
 pub fn program(rt: &impl Print, text: &[u8]) -> io::Result<()> {
     let mut out = [0u8; 2048];
     let len = program::answer(text, &mut out);
-    printing::number(rt, "program", len as u64)?;
+    printing::number(rt, b"program", len as u64)?;
     printing::end(rt)?;
     printing::text(rt, &out[..len])
 }
 
 pub fn write(rt: &impl Print, departure: Departure, message: &mut [u8]) -> io::Result<()> {
     let number = departures::write(departure, message);
-    printing::byte(rt, "write", number)?;
-    printing::bytes(rt, " message", message)?;
+    printing::byte(rt, b"write", number)?;
+    printing::bytes(rt, b" message", message)?;
     printing::end(rt)
 }
 
 pub fn read(rt: &impl Print, message: &[u8]) -> io::Result<()> {
     let reading = departures::read(message);
     let departure = reading.departure;
-    printing::byte(rt, "read", reading.number)?;
+    printing::byte(rt, b"read", reading.number)?;
     printing::departure(rt, departure)?;
     printing::end(rt)
 }
 
 pub fn show(rt: &impl Print, departure: Departure, text: &mut [u8]) -> io::Result<()> {
     let number = departures::show(departure, text);
-    printing::byte(rt, "show", number)?;
-    printing::bytes(rt, " text", text)?;
+    printing::byte(rt, b"show", number)?;
+    printing::bytes(rt, b" text", text)?;
     printing::end(rt)
 }
 
 fn print_heard(rt: &impl Print, number: u8, count: u8, departure: Departure) -> io::Result<()> {
-    printing::byte(rt, "hear", number)?;
-    printing::byte(rt, " count", count)?;
+    printing::byte(rt, b"hear", number)?;
+    printing::byte(rt, b" count", count)?;
     printing::departure(rt, departure)
 }
 
@@ -159,6 +159,6 @@ pub fn hear(
         Heard::Several => print_heard(rt, 0, 2, ZERO_DEPARTURE),
         Heard::Refused(number) => print_heard(rt, number, 0, ZERO_DEPARTURE),
     }?;
-    printing::sum(rt, " room", room)?;
+    printing::sum(rt, b" room", room)?;
     printing::end(rt)
 }

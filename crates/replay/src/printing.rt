@@ -17,17 +17,17 @@ fn spaced(rt: &impl Print, n: u64) -> io::Result<()> {
     print!(rt; " {n}")
 }
 
-pub fn number(rt: &impl Print, name: &str, n: u64) -> io::Result<()> {
-    rt.print(name)?;
+pub fn number(rt: &impl Print, name: &[u8], n: u64) -> io::Result<()> {
+    rt.write_all(name)?;
     spaced(rt, n)
 }
 
-pub fn byte(rt: &impl Print, name: &str, b: u8) -> io::Result<()> {
+pub fn byte(rt: &impl Print, name: &[u8], b: u8) -> io::Result<()> {
     number(rt, name, wide(b))
 }
 
-pub fn bytes(rt: &impl Print, name: &str, lent: &[u8]) -> io::Result<()> {
-    rt.print(name)?;
+pub fn bytes(rt: &impl Print, name: &[u8], lent: &[u8]) -> io::Result<()> {
+    rt.write_all(name)?;
     for b in lent {
         spaced(rt, wide(*b))?;
     }
@@ -37,13 +37,13 @@ pub fn bytes(rt: &impl Print, name: &str, lent: &[u8]) -> io::Result<()> {
 pub fn note(rt: &impl Print, note: Note) -> io::Result<()> {
     bytes(
         rt,
-        " note",
+        b" note",
         &[note.p, note.n, note.k, note.m, note.l, note.r],
     )
 }
 
 pub fn departure(rt: &impl Print, departure: Departure) -> io::Result<()> {
-    byte(rt, " departure", departure.boat)?;
+    byte(rt, b" departure", departure.boat)?;
     spaced(rt, departure.day as u64)?;
     spaced(rt, departure.minute as u64)
 }
@@ -56,7 +56,7 @@ fn step(s: u64, b: u8) -> u64
 }
 
 // A number in which every byte lent counts, where there are too many to print.
-pub fn sum(rt: &impl Print, name: &str, lent: &[u8]) -> io::Result<()> {
+pub fn sum(rt: &impl Print, name: &[u8], lent: &[u8]) -> io::Result<()> {
     let mut s = 0;
     for b in lent {
         s = step(s, *b);

@@ -69,12 +69,13 @@ fn sail(departure: Departure, count: usize) -> Heard
     departures::hear(&points, &word, M, L, WANTED, &mut room)
 }
 
-fn line(rt: &impl Print, name: &str, n: u64) -> io::Result<()> {
-    println!(rt; "{name}={n}")
+fn line(rt: &impl Print, name: &[u8], n: u64) -> io::Result<()> {
+    rt.write_all(name)?;
+    println!(rt; "{n}")
 }
 
 fn print_number(rt: &impl Print, number: u8) -> io::Result<()> {
-    line(rt, "number", u64::from(number))
+    line(rt, b"number=", u64::from(number))
 }
 
 fn print_departure(rt: &impl Print, departure: Departure) -> io::Result<()> {
@@ -83,8 +84,8 @@ fn print_departure(rt: &impl Print, departure: Departure) -> io::Result<()> {
     if number != 0 {
         return print_number(rt, number);
     }
-    line(rt, "boat", u64::from(departure.boat))?;
-    line(rt, "day", u64::from(departure.day))?;
+    line(rt, b"boat=", u64::from(departure.boat))?;
+    line(rt, b"day=", u64::from(departure.day))?;
     rt.write_all(b"time=")?;
     rt.write_all(&time)?;
     rt.write_all(b"\n")
