@@ -9,11 +9,9 @@ pub returns-then-not-in_range : goal.returns-then-not-in_range
 returns-then-not-in_range c = inl (c.in_range.ensures.fails c.if-not-in_range.true, refl)
 
 pub returns-then-room-size : goal.returns-then-room-size
-returns-then-room-size c =
-    let range : (InRange c.args.departure → ⊥) → ⊥ = λ n. n (c.in_range.ensures.holds c.if-not-in_range.false) in
-    inr (range, inl (c.if-room-size.true, refl))
+returns-then-room-size c = inr ((λ n. n (c.in_range.ensures.holds c.if-not-in_range.false)), inl (c.if-room-size.true, refl))
 
 pub returns : goal.returns
 returns c =
-    let range : (InRange c.args.departure → ⊥) → ⊥ = λ n. n (c.in_range.ensures.holds c.if-not-in_range.false) in
-    let g = c.if-room-size.false in inr (range, inr ((λ h. omega arith), refl))
+    let room = c.if-room-size.false in
+    inr ((λ n. n (c.in_range.ensures.holds c.if-not-in_range.false)), inr ((λ h. omega arith), refl))
