@@ -287,7 +287,8 @@ hear-done {points} {word} {m} {l} {t} {room} {heard = heard} {job = job} long ha
 
 pub hear_job : {points word : List ℕ} {m l t : ℕ} {room room' heard heard' : List ℕ} {number : ℕ} → heard_bytes ≤ length heard
     → HearCall points word m l t room room' heard heard' number
-    → (job : Heard) × HasHeard points word m l t room room' job × (number ≡ (back_of_hear_lem job).number) × (heard' ≡ heard_into (back_of_hear_lem job) heard)
+    → (job : Heard) × HasHeard points word m l t room room' job × (number ≡ (back_of_hear_lem job).number) × (heard'
+    ≡ heard_into (back_of_hear_lem job) heard)
 hear_job {points} {word} {m} {l} {t} {room} {heard = heard} long call =
     let asked = hear_table points word m l t room in
     let table = hear_call_table points word m l t room heard in

@@ -1,5 +1,5 @@
 -- What each call from C leaves. A primed name is what the call leaves in the bytes of that name.
---   start_call_table, turn_call_table, finish_call_table, list_call_table    the refusals of each call, in order: its job's, where 9 also says that the
+--   start_call_table, turn_call_table, finish_call_table, list_call_table  the refusals of each call, in order: its job's, where 9 also says that the
 --                   lent note or back is too short. A turn and a finish first of all need the note that they are to read: 9 without it
 --   StartCall, TurnCall, FinishCall, ListCall    the number by the call's table, and:
 --     done          if no line of it applies: what the job's own contract says, with the job's struct in the lent bytes
@@ -60,7 +60,8 @@ finish_call_table note rows curve back =
     record { number = 10; applies = BadNote (note_of note) } ∷
     record {
       number = 9;
-      applies = (TooShort (rows_bytes (shape_of (note_of note))) rows ⊎ TooShort (curve_bytes (shape_of (note_of note))) curve) ⊎ TooShort back_bytes back;
+      applies = (TooShort (rows_bytes (shape_of (note_of note))) rows ⊎ TooShort (curve_bytes (shape_of (note_of note))) curve)
+          ⊎ TooShort back_bytes back;
     } ∷
     record { number = 12; applies = (note_of note).r < suc (note_of note).l } ∷
     record { number = 11; applies = AsLeft (shape_of (note_of note)) (note_of note).r rows → ⊥ } ∷

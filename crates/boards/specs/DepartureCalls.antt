@@ -1,5 +1,5 @@
 -- What each call on departures leaves. A primed name is what the call leaves in the bytes of that name. Rules: section 23.
---   read_call_table, hear_call_table    the refusals of each call, in order: its job's, where 9 also says that the lent bytes for a departure, or for
+--   read_call_table, hear_call_table  the refusals of each call, in order: its job's, where 9 also says that the lent bytes for a departure, or for
 --                   what is heard, are too few
 --   ReadCall, HearCall    the number by the call's table, and:
 --     done          if no line of it applies: what the job's own contract says, with what it hands back in the lent bytes

@@ -1,17 +1,17 @@
 -- How a note, a departure, and what a job hands back beside its number, lie in lent bytes.
---   note_bytes, back_bytes, departure_bytes, heard_bytes    the bytes that each takes
---   note_of xs               the note in the first bytes of xs: p, n, k, m, l, r
---   note_into note xs        xs with the note in its first bytes
---   back_of_turn, back_of_finish, back_of_list    what each job hands back beside its number and its note; zero for what it does not have
---   back_into back xs        xs with what is handed back in its first bytes: the updates, low byte first, the weight, the height, the count
---   updates_of xs            the updates in the first bytes of xs
---   finished_of number xs    what a finish hands back: the number, and the weight and the height in the first bytes of xs
---   bytes_of d               a departure's bytes: the boat, the day, low byte first, the minute, low byte first
---   departure_into d xs      xs with the departure in its first bytes
---   departure_in xs          the departure in the first bytes of xs
---   back_of_hear_lem heard        what hear hands back: the number, the departure, the count; zeros for what there is not
---   heard_into back xs       xs with the departure in its first bytes, and then the count
---   count_in xs              the count that is there
+--   note_bytes, back_bytes, departure_bytes, heard_bytes  the bytes that each takes
+--   note_of xs              the note in the first bytes of xs: p, n, k, m, l, r
+--   note_into note xs       xs with the note in its first bytes
+--   back_of_turn, back_of_finish, back_of_list  what each job hands back beside its number and its note; zero for what it does not have
+--   back_into back xs       xs with what is handed back in its first bytes: the updates, low byte first, the weight, the height, the count
+--   updates_of xs           the updates in the first bytes of xs
+--   finished_of number xs   what a finish hands back: the number, and the weight and the height in the first bytes of xs
+--   bytes_of d              a departure's bytes: the boat, the day, low byte first, the minute, low byte first
+--   departure_into d xs     xs with the departure in its first bytes
+--   departure_in xs         the departure in the first bytes of xs
+--   back_of_hear_lem heard  what hear hands back: the number, the departure, the count; zeros for what there is not
+--   heard_into back xs      xs with the departure in its first bytes, and then the count
+--   count_in xs             the count that is there
 --   Cleared size xs ys      ys is xs with its first `size` bytes zero, or xs itself where it has fewer
 use Rattle.std.specs.Prelude.{◌≡◌, List, [], ◌∷◌, ◌++◌, ℕ, ◌+◌, ◌*◌, ◌/◌, ◌%◌, ◌<◌, ◌≤◌, length, get_or}
 use Rattle.std.proofs.lemmas.List.Edits.{sets}

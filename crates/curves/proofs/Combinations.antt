@@ -50,7 +50,8 @@ module _ {R : Ring} (L : RingLaws R) (h : Seq R) (E : ℕ → Seq R) (m K : ℕ)
   unfolding expanded
   expanded-below q = below-join LL m K (λ j. mul_s R (E j) (q j)) (shift SR h K (drop SR m q)) (below-shift LL h K (drop SR m q))
 
-  low-term : (q : ℕ → Seq R) (i : ℕ) → i < m → x_times R (q i) (row R m E h i) ≡ const_s SR (expanded q i) ⊗ pow (Series SR) (x_plus SR (neg_s R h)) i
+  low-term : (q : ℕ → Seq R) (i : ℕ) → i < m → x_times R (q i) (row R m E h i)
+      ≡ const_s SR (expanded q i) ⊗ pow (Series SR) (x_plus SR (neg_s R h)) i
   unfolding row
   low-term q i l =
       let e : min i m ≡ i = omega arith in

@@ -87,7 +87,8 @@ module _ {R : Ring} (L : RingLaws R) where
   unfolding zero_s
   moved-zero M N a v = ap (shift (Series R) (const_s R v) N) (fun_ext (λ j. shift-null L a M)) ∙ shift-null (series L) (const_s R v) N
 
-  moved-add : (M N : ℕ) (a v : Car) (P Q : Curve R) → moved R M N a v (add_s (Series R) P Q) ≡ add_s (Series R) (moved R M N a v P) (moved R M N a v Q)
+  moved-add : (M N : ℕ) (a v : Car) (P Q : Curve R) → moved R M N a v (add_s (Series R) P Q)
+      ≡ add_s (Series R) (moved R M N a v P) (moved R M N a v Q)
   unfolding add_s
   moved-add M N a v P Q =
       ap (shift (Series R) (const_s R v) N) (fun_ext (λ j. shift-add L a M (P j) (Q j)))

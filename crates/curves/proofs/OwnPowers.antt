@@ -100,7 +100,8 @@ module _ {F : Field} (Φ : FieldLaws F) where
     led-sum zero q h own = inl (rw (sum-zero (Series (Series R)) (λ i. x_times R (q i) (rows i))) zero-zero)
     led-sum (suc n) q h own =
         rw (sum-suc (Series (Series R)) n (λ i. x_times R (q i) (rows i)))
-        (led-add n (sum (Series (Series R)) n (λ i. x_times R (q i) (rows i))) (x_times R (q n) (rows n)) (led-sum n q h (λ i l. own i (omega arith)))
+        (led-add n (sum (Series (Series R)) n (λ i. x_times R (q i) (rows i))) (x_times R (q n) (rows n))
+        (led-sum n q h (λ i l. own i (omega arith)))
         (led-x_times n (h n).0 (q n) (h n).1 (own n (omega arith))))
 
     module _ (n : ℕ) (own : (i : ℕ) → i < n → LeadsAt R u i (rows i)) {Q : Curve R} (s : Span R n rows Q) where

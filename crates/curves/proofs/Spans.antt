@@ -64,7 +64,8 @@ module _ {R : Ring} (L : RingLaws R) where
   unfolding scale_s zero_s
   x_times-null p = fun_ext (λ j. mul-zero (series L) p)
 
-  x_times-over : (p : Seq R) (n : ℕ) (f : ℕ → Curve R) → x_times R p (sum (Series (Series R)) n f) ≡ sum (Series (Series R)) n (λ i. x_times R p (f i))
+  x_times-over : (p : Seq R) (n : ℕ) (f : ℕ → Curve R) → x_times R p (sum (Series (Series R)) n f)
+      ≡ sum (Series (Series R)) n (λ i. x_times R p (f i))
   x_times-over p zero f = rw (sum-zero (Series (Series R)) f, sum-zero (Series (Series R)) (λ i. x_times R p (f i))) (x_times-null p)
   x_times-over p (suc n) f =
       rw (

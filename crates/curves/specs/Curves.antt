@@ -8,7 +8,7 @@
 --   Under u w s Q    every term of Q that is not smaller than one of weight w and power s of y is zero
 --   Lead u w s Q     the leading term of Q has weight w and power s of y
 --   LeadsAt u s Q    Q leads at y^s
---   x_times q Q       the x-polynomial q times Q
+--   x_times q Q      the x-polynomial q times Q
 --   Span n rows Q    Q is a sum of the first n rows, each times a polynomial in x
 --   Smallest         of the curves of a set, the monic nonzero one with the smallest leading term
 -- Multiplicity at a point is by the coefficients of Q (x + a, y + b), with their binomials.

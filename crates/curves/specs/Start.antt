@@ -1,5 +1,5 @@
 -- The rows that a start fills, and the formula that bounds the updates. Rules: sections 8 and 10.
---   start_row m e h i    e^(m-i) (y-h)^i for i up to m, y^(i-m) (y-h)^m above (corollary 14)
+--   start_row m e h i   e^(m-i) (y-h)^i for i up to m, y^(i-m) (y-h)^m above (corollary 14)
 --   total n f           f 1 + .. + f n
 --   formula n k m l     (n-k) times the sum of r r for r = 1 to m, plus (n-k) m times the sum of r for r = m+1 to l
 use Rattle.std.specs.Prelude.{ℕ, zero, suc, ◌+◌, ◌-◌, ◌*◌, min}

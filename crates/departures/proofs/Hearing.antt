@@ -108,7 +108,8 @@ module _ {p : ℕ} {points message before sent : List ℕ} (encoded : Encoded p 
       go before grown (yes e) =
           let one = choose_yes {A = ℕ} (agrees? asked (polynomial asked message) n) 1 0 (place-agrees n (omega arith) e) in
           omega (arith, before, grown, one)
-      go before grown (no k) = let one = choose_no {A = ℕ} (ℕ_discrete (get_or sent n 0) (get_or word n 0)) 0 1 k in omega (arith, before, grown, one)
+      go before grown (no k) =
+          let one = choose_no {A = ℕ} (ℕ_discrete (get_or sent n 0) (get_or word n 0)) 0 1 k in omega (arith, before, grown, one)
 
   undisturbed : disturbed (length points) sent word + t ≤ length points → t ≤ agreements asked (length points) (polynomial asked message)
   undisturbed few = let h = agrees-or-disturbed (length points) (omega arith) in omega arith

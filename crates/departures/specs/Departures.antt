@@ -1,14 +1,14 @@
 -- Departures, and the six symbols that spell them. Rules: section 23.
 --   departure_field        the field of the symbols, and so the base of the digits
 --   departure_symbols      the symbols of a message
---   boat_most, day_most, minute_most    the largest boat, service day, and minute of the service day: no minute is wrapped at 1,440
---   InRange d             no part of the departure is above its largest
+--   boat_most, day_most, minute_most  the largest boat, service day, and minute of the service day: no minute is wrapped at 1,440
+--   InRange d              no part of the departure is above its largest
 --   six_symbols d          the boat; the day as two digits, high first; the minute as three
 --   with_digit high digit  the number with one digit more
 --   departure_of xs        the departure that six symbols spell
---   IsDeparture xs        xs is six symbols, and the minute that they spell is not above the largest
+--   IsDeparture xs         xs is six symbols, and the minute that they spell is not above the largest
 --   two_digits n           a number below 100 as two decimal digits, in bytes of text
---   clock minute          hours, colon, minutes: 24:15 for 1,455; time_bytes  the bytes that it takes
+--   clock minute           hours, colon, minutes: 24:15 for 1,455; time_bytes  the bytes that it takes
 use Rattle.std.specs.Prelude.{List, [], ◌∷◌, ◌++◌, ℕ, ◌+◌, ◌*◌, ◌/◌, ◌%◌, ◌≤◌, get_or}
 use Rattle.near.specs.Lists.{Spelt}
 use Rattle.departures.specs.declared.Departure.{Departure}

@@ -1,12 +1,12 @@
 -- The board's question: which departure was sent? Rules: section 23.
---   hear_table            its refusals 1 to 9, of which 1 never applies: those of a list over the field of departures, with room of its own
+--   hear_table           its refusals 1 to 9, of which 1 never applies: those of a list over the field of departures, with room of its own
 --                        for the messages
---   departure_task        what is asked of the list
+--   departure_task       what is asked of the list
 --   Says list back       what is said of a list: none, the one departure, several, or 15 for a message that is alone and no departure
 --   AnswersBoard         what an accepted question leaves: with w the curve's weight, 13 where m t is not above w, and else what is said of
 --                        the list
 --   HasHeard             what the job hands back and leaves in the working room
---   heard_number, heard_count, heard_departure    the number for each answer; 0, 1 or 2 for none, one or several; the departure, or zeros
+--   heard_number, heard_count, heard_departure  the number for each answer; 0, 1 or 2 for none, one or several; the departure, or zeros
 --   Agrees d points word t    the departure is in range and agrees with the received word at t places or more
 --   disturbed n xs ys    in how many of the first n places two words differ
 --   Hears d back         what may be heard of a departure that was sent: itself, several, or a number other than 0 and 15; never none, and never

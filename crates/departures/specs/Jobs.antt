@@ -1,10 +1,10 @@
 -- The writer, the reader and the printer: when each refuses, and what it leaves. Rules: sections 15, 16 and 23.
---   put_table d size room      refusals of a job that puts `size` bytes for the departure d at the front of a lent room
---   write_table, show_table     those of the writer and of the printer
---   read_table xs              those of the reader
+--   put_table d size room     refusals of a job that puts `size` bytes for the departure d at the front of a lent room
+--   write_table, show_table   those of the writer and of the printer
+--   read_table xs             those of the reader
 --   Puts table text ..        what such a job leaves: the text at the front and the rest as it was, or every byte as it was
 --   WritesDeparture, ShowsDeparture    what the writer leaves for a departure, and the printer
---   zero_departure             the departure of zeros that a refused reader hands back
+--   zero_departure            the departure of zeros that a refused reader hands back
 --   ReadsDeparture xs back    what the reader hands back
 use Rattle.std.specs.Prelude.{◌≡◌, List, [], ◌∷◌, ℕ, length, take}
 use Rattle.poly.specs.Table.{Refusal, First, TooShort}

@@ -2,10 +2,10 @@
 -- four bits, modulo x^4 + x + 1, are the field of 16 (specs/Symbols). Rules: section 2. That bit_remainder is the remainder of a division:
 -- proofs/BitPolynomialLaws.antt.
 --   bit i a             the coefficient of x^i
---   terms_below n a b    the sum of a · x^i over the i below n where b has x^i; bit_product a b  the product a · b, for b of four bits
+--   terms_below n a b   the sum of a · x^i over the i below n where b has x^i; bit_product a b  the product a · b, for b of four bits
 --   modulus             x^4 + x + 1
---   divided_down n z     z less, from the highest of n bits above the four down, modulus · x^i where what is left has x^(i+4)
---   bit_remainder z      the remainder of a product modulo x^4 + x + 1: a product has three bits above the four
+--   divided_down n z    z less, from the highest of n bits above the four down, modulus · x^i where what is left has x^(i+4)
+--   bit_remainder z     the remainder of a product modulo x^4 + x + 1: a product has three bits above the four
 use Rattle.std.specs.Prelude.{ℕ, zero, suc, ◌+◌, ◌*◌, ◌/◌, ◌%◌, ◌^◌}
 use Rattle.std.specs.Int.Bits.{bit_xor}
 

@@ -5,12 +5,12 @@
 --   Element p           a symbol, that is, a number that is its own remainder modulo p
 --   symbol p n          the symbol of a number; same-byte  symbols of one byte are one symbol
 --   select test a b     a where the test passes, else b; find n test  the largest number below n that passes the test, or 0
---   plus_number p a b, times_number p a b, negative_number p a   the operations on numbers; here alone the field of 16 is told from the others
---   sum_of, product_of, negative_of   the operations: those on numbers, and then the remainder modulo p
---   inverse_of           the symbol of inverse_number p a, the number below p whose product with a leaves 1, or 0 if there is none
---   same_symbol          whether two symbols are the same
+--   plus_number p a b, times_number p a b, negative_number p a  the operations on numbers; here alone the field of 16 is told from the others
+--   sum_of, product_of, negative_of  the operations: those on numbers, and then the remainder modulo p
+--   inverse_of          the symbol of inverse_number p a, the number below p whose product with a leaves 1, or 0 if there is none
+--   same_symbol         whether two symbols are the same
 --   symbols p           the symbols with their operations; a field where p is listed (proofs/SymbolLaws.antt)
---   symbols_of p xs      the symbols of bytes, by their places; zero past the end
+--   symbols_of p xs     the symbols of bytes, by their places; zero past the end
 use Rattle.std.specs.Prelude.{◌≡◌, Bool, true, false, List, [], ◌∷◌, ℕ, zero, suc, ◌+◌, ◌-◌, ◌*◌, ◌%◌, eqb, get_or}
 use Rattle.std.proofs.Common.{ap}
 use mathlib.Core.HLevel.{Σ_prop_path, hedberg}

@@ -4,7 +4,7 @@
 --   Encodes p points message word   encode gives this word
 --   Calls q                start, turn and finish one after the other, for the request q
 --   Gives                  what three such calls hand back, and the bytes of the curve
---   at_three word m         the request of a word at the points 1, 2, 3 over the field of 7, with k = 2 and l = m
+--   at_three word m        the request of a word at the points 1, 2, 3 over the field of 7, with k = 2 and l = m
 --   ListGives t near       what list hands back for the word 0, 0, 1 there, asked for t agreements
 --   EncodeGives number p points k   encode of a message of k symbols gives this number
 --   Refused number ..      start and list both give this number

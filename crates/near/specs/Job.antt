@@ -1,6 +1,6 @@
 -- The job list: when it refuses, and what it leaves. Rules: sections 12 to 16.
---   task_of p points word k t   what is asked of the list, over the symbols of p
---   list_table          refusals 1 to 9
+--   task_of p points word k t  what is asked of the list, over the symbols of p
+--   list_table         refusals 1 to 9
 --   flat list          the messages one after the other
 --   refusal number     what a refusal hands back: its number and zeros
 --   RuleUpdates        how many updates the rule makes from the starting rows to the end

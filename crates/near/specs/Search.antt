@@ -1,5 +1,5 @@
 -- The search for the near messages, symbol by symbol, on a curve Q with no power from y^N on and of weight below W. Rules: section 12.
---   curve_at N s Q       Q at y = s
+--   curve_at N s Q      Q at y = s
 --   prefixed g i        g + x^i y
 --   Fits N g i Q c      c fits after the i symbols that form g: it is a root, at x = 0, of Q at y = g + x^i y divided by its highest power
 --                       of x
@@ -14,7 +14,7 @@
 --   some? N f           whether one of the first N coefficients is not zero
 --   lowest N W i T      the least v below W at which it is not zero
 --   fits? N W i T c     whether c is a root of it there
---   curve_left task N x y T      the curve T as the symbols y leave it, chosen one by one after x; `curve_left task N [] x Q` is Q as the
+--   curve_left task N x y T     the curve T as the symbols y leave it, chosen one by one after x; `curve_left task N [] x Q` is Q as the
 --                       symbols x leave it
 --   level task N W left x T    the messages found that begin with x, where T is what x leaves and `left` symbols are still to be chosen:
 --                       each next symbol is tried, and each fitting one opens the next level; at the end the agreements decide

@@ -1,6 +1,6 @@
 -- What the functions of the search ask and give. Their curve lies in bytes as a row does; a level gives these bytes back as they were.
---   curve_of S xs            the curve that the bytes xs are
---   slice_of S xs i v        the coefficient of x^v in that curve at y = x^i y, as a polynomial in y
+--   curve_of S xs           the curve that the bytes xs are
+--   slice_of S xs i v       the coefficient of x^v in that curve at y = x^i y, as a polynomial in y
 --   RootAt S xs i v c       c is a root of it
 --   Laid S xs               they are a curve of which no term weighs more than the width, each coefficient below p
 --   Tries S i c xs          the curve is laid, and c is tried as the symbol at x^i
@@ -15,8 +15,8 @@
 --   Wrote                   the list was written after `count` messages, and the number of all is handed back
 --   Searches                what a level asks: the curve is laid, and `left` symbols are to be chosen, at least one, after the others
 --   Leaves                  what it leaves: the curve and the symbols chosen before as they were, and the messages written
---   plan_of p n k m l t      the plan of a request
---   found_on                 all messages found on the curve that bytes are
+--   plan_of p n k m l t     the plan of a request
+--   found_on                all messages found on the curve that bytes are
 --   Runs                    what the whole search asks: the curve is laid, and l messages are room enough
 --   Ran                     what it leaves: the messages one after the other, the rest as it was, and how many they are
 --   FoundCurve              what interpolation leaves: the curve of demand 2 in the lent bytes, with its weight and the updates made

@@ -121,7 +121,8 @@ module _ {F : Field} (Φ : FieldLaws F) where
           → (f ≡ zero_s R) ⊎ ((n : ℕ) × Ord R n f × (f n ≢ R.𝟘))
       go (no e) r = inr (zero, (λ i l. absurd (omega arith)), e)
       go (yes e) (inl z) =
-          inl (cons_ext Φ.ring f (zero_s R) (e ∙ sym (zero_s-at R zero)) (λ n. ap (λ (g : Seq R). g n) z ∙ zero_s-at R n ∙ sym (zero_s-at R (suc n))))
+          inl (cons_ext Φ.ring f (zero_s R) (e ∙ sym (zero_s-at R zero)) (λ n. ap (λ (g : Seq R). g n) z ∙ zero_s-at R n
+          ∙ sym (zero_s-at R (suc n))))
       go (yes e) (inr t) = inr (suc t.0, low, t.2)
         where
           low : Ord R (suc t.0) f

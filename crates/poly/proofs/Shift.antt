@@ -151,7 +151,8 @@ module _ {R : Ring} (L : RingLaws R) where
       later : (q a b : Car) → 𝟘 ⊕ (g ⊗ (h ⊗ q ⊗ b) ⊕ h ⊗ (q ⊗ a)) ≡ h ⊗ q ⊗ (a ⊕ g ⊗ b)
       later q a b = ring L (q ∷ a ∷ b ∷ g ∷ h ∷ []) (search reading depth 25) tt
 
-      at : (j : ℕ) → ((i : ℕ) → E i ≡ pow R h i ⊗ S i) → const_s R (f 0) j ⊕ mul_s R (cons_s R g (const_s R h)) E j ≡ pow R h j ⊗ shift R g (suc N) f j
+      at : (j : ℕ) → ((i : ℕ) → E i ≡ pow R h i ⊗ S i) → const_s R (f 0) j ⊕ mul_s R (cons_s R g (const_s R h)) E j
+          ≡ pow R h j ⊗ shift R g (suc N) f j
       at zero ih =
           rw (const_s-zero R (f 0), mul_s-zero R (cons_s R g (const_s R h)) E, ih 0, shift-at-zero L g N f, pow-zero R h) (first (f 0) (S 0))
       at (suc j) ih =

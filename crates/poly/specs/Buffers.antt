@@ -6,7 +6,7 @@
 --   from p xs at            the x-polynomial whose coefficients stand from the byte `at` on
 --   Factors p f at len xs   p is listed, and every byte of f and of the len bytes from `at` on is below p; len is within what a sum of products
 --                           can hold
---   product_from p f xs at   f times that x-polynomial
+--   product_from p f xs at  f times that x-polynomial
 --   Kept at len xs ys       only the len bytes from `at` on may differ
 --   Product                 those bytes become the coefficients of the product, as far as they go
 --   Halves p a b work       p is listed, and a, b and all 64 bytes are below p

@@ -1,6 +1,6 @@
 -- Encoding: byte s of the word is the message's value at point s. Rules: section 7.
---   value_at p xs a     the value at the point a of the polynomial whose coefficients the bytes xs are
---   encode_table        when encode refuses; n is the count of points and k the message's length
+--   value_at p xs a    the value at the point a of the polynomial whose coefficients the bytes xs are
+--   encode_table       when encode refuses; n is the count of points and k the message's length
 --   Encoded            what encode leaves: the number, and every byte of the lent word
 use Rattle.std.specs.Prelude.{◌≡◌, ◌⊎◌, List, [], ◌∷◌, ℕ, ◌≤◌, ◌<◌, length, get_or}
 use Rattle.field.specs.Symbols.{Element, symbol, symbols, symbols_of}

@@ -1,13 +1,13 @@
 -- The limits of the numbers that a caller gives, and what follows from them. Rules: section 5.
---   field_most           the largest field size, and so the most points
---   multiplicity_most    the greatest multiplicity m
---   height_most          the greatest height l
---   width_most           the greatest W = m n + (l - m)(k - 1): at m = 4, n = 31, l = 8, k = 30
---   curve_most           the bytes of the largest curve; rows_most  of the largest rows
---   messages_most        the bytes of the most messages, l k
---   working_room         the bytes of working room that the list job asks
---   updates_most         the most updates from a start
---   allowance_most       the largest allowance
+--   field_most          the largest field size, and so the most points
+--   multiplicity_most   the greatest multiplicity m
+--   height_most         the greatest height l
+--   width_most          the greatest W = m n + (l - m)(k - 1): at m = 4, n = 31, l = 8, k = 30
+--   curve_most          the bytes of the largest curve; rows_most  of the largest rows
+--   messages_most       the bytes of the most messages, l k
+--   working_room        the bytes of working room that the list job asks
+--   updates_most        the most updates from a start
+--   allowance_most      the largest allowance
 use Rattle.std.specs.Prelude.{ℕ, suc, ◌-◌, ◌*◌}
 
 abbrev pub field_most : ℕ

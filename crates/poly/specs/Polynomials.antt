@@ -1,20 +1,20 @@
 -- Polynomials in x over a ring, as sequences of coefficients, lowest power first. Rules: section 2.
---   Seq R              f n is the coefficient of x^n
---   tail R f           the coefficients from the second on: f is f 0 + x (tail f)
---   zero_s R, one_s R    0, 1
---   add_s R f g, neg_s R f   f + g, -f, coefficient by coefficient
+--   Seq R               f n is the coefficient of x^n
+--   tail R f            the coefficients from the second on: f is f 0 + x (tail f)
+--   zero_s R, one_s R   0, 1
+--   add_s R f g, neg_s R f  f + g, -f, coefficient by coefficient
 --   scale_s R c f       c f
 --   mul_s R f g         f g, the Cauchy product: at x^n it is f 0 g n + f 1 g (n-1) + .. + f n g 0
---   Series R           the ring of these sequences; Series (Series R) are polynomials in y whose coefficients are polynomials in x
+--   Series R            the ring of these sequences; Series (Series R) are polynomials in y whose coefficients are polynomials in x
 --   cons_s R c f        c + x f
---   const_s R c, x_s R   c, x
---   mono R c d         c x^d
---   lin R a            x - a
---   Below R N f        every coefficient from x^N on is zero: f is a polynomial of degree below N
---   value R a N f      f (a), for a polynomial f of degree below N, by Horner's rule
---   locator R n a      (x - a 0) .. (x - a (n-1))
---   Through R n a v h  h is a polynomial of degree below n, and h (a s) = v s for every s < n
---   binomial n i       the coefficient of x^i in (1 + x)^n
+--   const_s R c, x_s R  c, x
+--   mono R c d          c x^d
+--   lin R a             x - a
+--   Below R N f         every coefficient from x^N on is zero: f is a polynomial of degree below N
+--   value R a N f       f (a), for a polynomial f of degree below N, by Horner's rule
+--   locator R n a       (x - a 0) .. (x - a (n-1))
+--   Through R n a v h   h is a polynomial of degree below n, and h (a s) = v s for every s < n
+--   binomial n i        the coefficient of x^i in (1 + x)^n
 use Rattle.std.specs.Prelude.{◌≡◌, ℕ, zero, suc, ◌+◌, ◌≤◌, ◌<◌}
 use Rattle.field.specs.Field.{Ring, prod}
 

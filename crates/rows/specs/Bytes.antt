@@ -4,7 +4,7 @@
 --   shape p n k m l     the numbers by which bytes are read: p, u = k - 1, W and l
 --   slot S              the bytes of a slot; curve_bytes S, rows_bytes S  of a curve, of the rows
 --   place S i j e       where the coefficient of x^e y^j of row i stands
---   rows_of S xs         the rows that the bytes xs are; zero outside of the slots
+--   rows_of S xs        the rows that the bytes xs are; zero outside of the slots
 --   Holds S xs rows     the bytes xs are these rows, each coefficient below p
 --   HoldsCurve S xs Q   the bytes xs are the curve Q
 use Rattle.std.specs.Prelude.{◌≡◌, List, ℕ, suc, ◌+◌, ◌-◌, ◌*◌, ◌≤◌, leb, get_or}

@@ -1,6 +1,6 @@
 -- Demands 2 and 3 as statements about what the jobs hand back. Rules: section 21.
 --   Request        what start is given
---   ring_for q, shape_for q, note_for q r   its symbols, the numbers by which its bytes are read, and its note with r as the current row
+--   ring_for q, shape_for q, note_for q r  its symbols, the numbers by which its bytes are read, and its note with r as the current row
 --   updates_bound q the formula
 --   Member q Q     Q is zero or one of the curves of demand 2
 --   Begun          start accepts the request

@@ -1,11 +1,11 @@
 -- What the functions that fill the rows ask and give.
 --   copied from to len xs     the `len` bytes at `from` brought to `to`, which is further on; Copies  what this asks
 --   Power                     the x-polynomial in a region, times a power of f
---   slots_at p base slot xs    the curve whose slots of `slot` bytes follow each other from `base` on
+--   slots_at p base slot xs   the curve whose slots of `slot` bytes follow each other from `base` on
 --   raised                    such a curve times y - h; RaisedSlot  its slot j is in place, Raised  its first slots are
 --   HoldsRow S i Q xs         row i is Q
 --   FillsLow, FilledLow       row i up to m, (y - h)^i e^(m-i), comes to stand where the row was zero
---   raised_row S i xs          the slots of row i - 1 brought to those of row i, each one further on: y times that row; RaisesRow  what this asks
+--   raised_row S i xs         the slots of row i - 1 brought to those of row i, each one further on: y times that row; RaisesRow  what this asks
 --   Fills, Filled             the starting rows, by h and e, which are the two halves of 64 bytes
 use Rattle.std.specs.Prelude.{◌≡◌, List, ℕ, ◌+◌, ◌-◌, ◌*◌, ◌≤◌, ◌<◌, length, get_or, take, drop}
 use Rattle.std.proofs.lemmas.List.Edits.{sets}

@@ -2,14 +2,14 @@
 --   TheCurve p points word k m l Q   Q is the curve of demand 2: of those that pass through the received points, the monic nonzero one with
 --                          the smallest leading term
 --   BadNote note           10: 1, 2, 4 or 5 would apply to the note, or r is outside 1 to l + 1
---   shape_of note           the numbers by which the bytes of its rows are read
+--   shape_of note          the numbers by which the bytes of its rows are read
 --   AsLeft S r xs          the rows are as a turn leaves them; 11 if they are not
---   at_row note r           the note with r as its current row; no_note  all zeros
---   request_table           the refusals 1 to 7 of a request, with which start and list begin
---   start_table, turn_table, finish_table   the refusals of each job, in order
+--   at_row note r          the note with r as its current row; no_note  all zeros
+--   request_table          the refusals 1 to 7 of a request, with which start and list begin
+--   start_table, turn_table, finish_table  the refusals of each job, in order
 --   HoldsStart             the bytes are the rows that a start fills; HasStarted  what start hands back and leaves in the lent rows
 --   Goes                   an accepted turn goes by the rule and hands over what the rule leaves; HasTurned  the same with refusals
---   with_note made note     what a turn in place hands back, with the note that it leaves
+--   with_note made note    what a turn in place hands back, with the note that it leaves
 --   Hands                  finish hands over the lightest row, made monic, with its weight and height; HasFinished  the same with refusals
 use Rattle.std.specs.Prelude.{◌≡◌, ◌⊎◌, List, [], ◌∷◌, ◌++◌, ℕ, suc, ◌-◌, ◌<◌, length, take}
 use Rattle.field.specs.Symbols.{symbols, symbols_of}

@@ -8,13 +8,13 @@
 --   ZeroBetween xs a b  the bytes from a up to, not including, b are zero
 --   SoundRow            what Sound says of row i
 --   Crosses             rows r and s lead at the same power s of y, at weights w and v
---   leads_ratio          the leading coefficient of row r over that of row s; updated_rows  the rows after the update
---   delayed_byte         a coefficient of x^d times a slot; Slots, SlotVanishes  what the test of one slot for zero asks and says
+--   leads_ratio         the leading coefficient of row r over that of row s; updated_rows  the rows after the update
+--   delayed_byte        a coefficient of x^d times a slot; Slots, SlotVanishes  what the test of one slot for zero asks and says
 --   Exchanges, Exchanged   what changing two runs of bytes asks and leaves
 --   Ready note xs       the note and the rows of an accepted turn; Went  what it leaves
 --   Whole S xs          rows of which each leads at its own power of y
 --   HandsOver           what handing over a row asks: where it leads, and room for the curve
---   copied_from src at len xs   the first `len` bytes become those of src from `at` on
+--   copied_from src at len xs  the first `len` bytes become those of src from `at` on
 use Rattle.std.specs.Prelude.{◌≡◌, true, false, ◌⊎◌, List, ℕ, zero, suc, ◌+◌, ◌-◌, ◌*◌, ◌≤◌, ◌<◌, max, leb, length, get_or}
 use Rattle.std.proofs.lemmas.List.Edits.{sets}
 use Rattle.field.specs.Field.{Ring}

@@ -42,7 +42,8 @@ part-free b from to text h f i k e =
     f (from + i) (omega arith) (omega arith) (sym (get_or-take (to - from) (drop from text) i 0 l ∙ get_or-drop from text i 0) ∙ e)
 
 -- a part, the byte after it and the rest
-part_seam : (from to : ℕ) (text : List ℕ) → from ≤ to → to < length text → drop from text ≡ part from to text ++ get_or text to 0 ∷ drop (to + 1) text
+part_seam : (from to : ℕ) (text : List ℕ) → from ≤ to → to < length text → drop from text
+    ≡ part from to text ++ get_or text to 0 ∷ drop (to + 1) text
 part_seam from to text h k =
     let e : from + (to - from) ≡ to = omega arith in
     sym (take-append-drop (to - from) (drop from text))

@@ -1,13 +1,13 @@
 -- Answers: the text that a reply prints. Rules: section 17.
---   digits i n               the digits of n, if there are no more than i of them
---   decimal n                n in decimal, without leading zeros
---   comma i                  what stands before number i; joined i ns  the first i numbers
---   commas ns                the numbers with commas between them
---   message k xs i           message i of those in xs, k symbols each
+--   digits i n                the digits of n, if there are no more than i of them
+--   decimal n                 n in decimal, without leading zeros
+--   comma i                   what stands before number i; joined i ns  the first i numbers
+--   commas ns                 the numbers with commas between them
+--   message k xs i            message i of those in xs, k symbols each
 --   message_lines count k xs  a line for each of the first `count` messages
---   Reply                    the number from the table, and what is printed beside the number 0; reply  made of its parts
---   details number o         the lines after the first
---   answer o                 the text
+--   Reply                     the number from the table, and what is printed beside the number 0; reply  made of its parts
+--   details number o          the lines after the first
+--   answer o                  the text
 --   room_for o                so many bytes are enough for it: a number takes at most five, a comma or a line feed one more
 --   HasWritten o before after r   what is left and handed back: the text and its length, or nothing where out may be too short or messages are
 --                                 missing

@@ -1,5 +1,5 @@
 -- Requests: which texts can be read, and what they mean. Rules: section 17.
---   number_of text i          the number that the first i bytes write, decimal digits
+--   number_of text i         the number that the first i bytes write, decimal digits
 --   Number text n            one to three digits, leading zeros allowed, that write n; n is at most 255
 --   Numbers text ns          numbers with commas between them, one at least
 --   FewNumbers text ns       the same, at most as many as there can be points

@@ -12,7 +12,8 @@ use Rattle.poly.proofs.TableLaws.{first-stops, first-goes}
 use Rattle.near.specs.Job.{list_table}
 use Rattle.near.proofs.refusals.refuse_list.Goals as goal
 use Rattle.near.proofs.refusals.refuse_list.Goals.{then-t-lt1-via-then-t-lt1, then-t-lt1-via-else-t-lt1+then-points-t}
-use Rattle.near.proofs.refusals.refuse_list.Goals.{then-room-lt-WORKING_ROOM-via-then-room-lt-WORKING_ROOM, then-room-lt-WORKING_ROOM-via-else-room-lt-WORKING_ROOM+then-messages-l}
+use Rattle.near.proofs.refusals.refuse_list.Goals.{then-room-lt-WORKING_ROOM-via-then-room-lt-WORKING_ROOM}
+use Rattle.near.proofs.refusals.refuse_list.Goals.{then-room-lt-WORKING_ROOM-via-else-room-lt-WORKING_ROOM+then-messages-l}
 
 pub returns-then-number-ne0 : goal.returns-then-number-ne0
 returns-then-number-ne0 c =
