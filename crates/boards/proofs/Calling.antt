@@ -26,7 +26,7 @@ use Rattle.departures.specs.declared.Heard.{Heard}
 use Rattle.departures.specs.declared.Heard.TheVariants.{Refused}
 use Rattle.boards.specs.declared.departure_calls.HeardBack.{HeardBack}
 use Rattle.boards.specs.Lent.{note_bytes, back_bytes, note_of, note_into, back_of_turn, back_of_finish, back_of_list, back_into, Cleared}
-use Rattle.boards.specs.Lent.{departure_bytes, heard_bytes, departure_into, back_of_hear_lem, heard_into}
+use Rattle.boards.specs.Lent.{departure_bytes, heard_bytes, departure_into, back_of_hear, heard_into}
 use Rattle.boards.specs.Calls.{StartCall, TurnCall, FinishCall, ListCall, start_call_table, turn_call_table, finish_call_table, list_call_table}
 use Rattle.boards.specs.DepartureCalls.{ReadCall, HearCall, read_call_table, hear_call_table}
 use Rattle.boards.proofs.LentLaws.{note-same, cleared-none, cleared-note, cleared-back, cleared_heard, cleared_determined}
@@ -255,7 +255,7 @@ hear-room {points} {word} {m} {l} {t} room heard first z short =
     (first-passed (hear_call_table points word m l t room heard) (search rules) first z).1.1.1.1.1.1.1.1.0 (inr short)
 
 pub hear-short : {points word : List ℕ} {m l t : ℕ} {room room' heard : List ℕ} {job : Heard} {back : HeardBack} → length heard < heard_bytes
-    → HasHeard points word m l t [] room' job → back ≡ back_of_hear_lem job
+    → HasHeard points word m l t [] room' job → back ≡ back_of_hear job
     → HearCall points word m l t room room heard heard back.number
 hear-short {points} {word} {m} {l} {t} {room} {heard = heard} short has e =
     let asked = hear_table points word m l t [] in
@@ -265,11 +265,11 @@ hear-short {points} {word} {m} {l} {t} {room} {heard = heard} short has e =
       entry = has.entry;
       first = first;
       done = λ z. absurd (hear-room room heard first z short);
-      refused = λ n. (ap (λ x. x.number) (e ∙ ap back_of_hear_lem (has.refused n).0), refl, cleared-none short);
+      refused = λ n. (ap (λ x. x.number) (e ∙ ap back_of_hear (has.refused n).0), refl, cleared-none short);
     }
 
 pub hear-done : {points word : List ℕ} {m l t : ℕ} {room room' heard heard' : List ℕ} {job : Heard} {back : HeardBack}
-    → heard_bytes ≤ length heard → HasHeard points word m l t room room' job → back ≡ back_of_hear_lem job
+    → heard_bytes ≤ length heard → HasHeard points word m l t room room' job → back ≡ back_of_hear job
     → heard' ≡ heard_into back heard
     → HearCall points word m l t room room' heard heard' back.number
 hear-done {points} {word} {m} {l} {t} {room} {heard = heard} {job = job} long has e b =
@@ -281,14 +281,14 @@ hear-done {points} {word} {m} {l} {t} {room} {heard = heard} {job = job} long ha
       done = λ z. (job, has, ap (λ x. x.number) e, b ∙ ap (λ x. heard_into x heard) e);
       refused = λ n.
           let (none, kept) = has.refused n in
-          let zeros = e ∙ ap back_of_hear_lem none in
+          let zeros = e ∙ ap back_of_hear none in
           (ap (λ x. x.number) zeros, kept, rw (b, zeros) (cleared_heard has.entry long));
     }
 
 pub hear_job : {points word : List ℕ} {m l t : ℕ} {room room' heard heard' : List ℕ} {number : ℕ} → heard_bytes ≤ length heard
     → HearCall points word m l t room room' heard heard' number
-    → (job : Heard) × HasHeard points word m l t room room' job × (number ≡ (back_of_hear_lem job).number) × (heard'
-    ≡ heard_into (back_of_hear_lem job) heard)
+    → (job : Heard) × HasHeard points word m l t room room' job × (number ≡ (back_of_hear job).number) × (heard'
+    ≡ heard_into (back_of_hear job) heard)
 hear_job {points} {word} {m} {l} {t} {room} {heard = heard} long call =
     let asked = hear_table points word m l t room in
     let table = hear_call_table points word m l t room heard in

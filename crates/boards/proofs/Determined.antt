@@ -9,7 +9,7 @@ use Rattle.poly.proofs.TableLaws.{first_determined}
 use Rattle.rows.proofs.Determined.{start_determined, turn_determined, finish_determined}
 use Rattle.near.proofs.Determined.{list_determined}
 use Rattle.departures.proofs.Determined.{reading_determined, heard_determined}
-use Rattle.boards.specs.Lent.{departure_into, back_of_hear_lem, heard_into}
+use Rattle.boards.specs.Lent.{departure_into, back_of_hear, heard_into}
 use Rattle.boards.specs.Lent.{note_into, back_of_turn, back_of_finish, back_of_list, back_into}
 use Rattle.boards.specs.Calls.{StartCall, TurnCall, FinishCall, ListCall, start_call_table, turn_call_table, finish_call_table, list_call_table}
 use Rattle.boards.specs.DepartureCalls.{ReadCall, HearCall, read_call_table, hear_call_table}
@@ -114,9 +114,9 @@ hear_call_determined {points} {word} {m} {l} {t} {room} {heard = heard} f g =
     let (job, has, e, q) = f.done z in
     let (job', has', e', q') = g.done (sym same ∙ z) in
     let one = heard_determined has has' in (
-      e ∙ ap (λ j. (back_of_hear_lem j).number) one.0 ∙ sym e',
+      e ∙ ap (λ j. (back_of_hear j).number) one.0 ∙ sym e',
       one.1,
-      q ∙ ap (λ j. heard_into (back_of_hear_lem j) heard) one.0 ∙ sym q',
+      q ∙ ap (λ j. heard_into (back_of_hear j) heard) one.0 ∙ sym q',
     ))
     (λ x.
     let (e, r, c) = f.refused x in

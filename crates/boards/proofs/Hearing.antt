@@ -12,7 +12,7 @@ use Rattle.departures.specs.declared.Departure.{Departure}
 use Rattle.departures.specs.declared.Heard.{Heard}
 use Rattle.departures.specs.declared.Heard.TheVariants.{One, Several}
 use Rattle.departures.proofs.Hearing.{first-most, heard-sent}
-use Rattle.boards.specs.Lent.{heard_bytes, back_of_hear_lem, heard_into}
+use Rattle.boards.specs.Lent.{heard_bytes, back_of_hear, heard_into}
 use Rattle.boards.specs.DepartureCalls.{hear_call_table, HearCall, SentHeard}
 use Rattle.boards.proofs.LentLaws.{bytes-kept, departure-kept, count-kept}
 use Rattle.boards.proofs.Calling.{hear-room, hear_job}
@@ -21,16 +21,16 @@ refused-sent : {d : Departure} {number : ℕ} {heard : List ℕ} → (number ≡
 refused-sent some other = record { shown = λ z e. absurd (some z); some = λ z. absurd (some z); spelt = other }
 
 module _ (heard : List ℕ) (long : heard_bytes ≤ length heard) where
-  hears-sent : {d : Departure} {job : Heard} → Hears d job → SentHeard d (back_of_hear_lem job).number (heard_into (back_of_hear_lem job) heard)
+  hears-sent : {d : Departure} {job : Heard} → Hears d job → SentHeard d (back_of_hear job).number (heard_into (back_of_hear job) heard)
   hears-sent {d} itself =
-      let one = count-kept (back_of_hear_lem (One d)) heard long in
+      let one = count-kept (back_of_hear (One d)) heard long in
       record {
-        shown = λ z e. (bytes-kept (back_of_hear_lem (One d)) heard long, departure-kept (back_of_hear_lem (One d)) heard long);
+        shown = λ z e. (bytes-kept (back_of_hear (One d)) heard long, departure-kept (back_of_hear (One d)) heard long);
         some = λ z. omega (arith, one);
         spelt = λ e. omega arith;
       }
   hears-sent among =
-      let two = count-kept (back_of_hear_lem Several) heard long in
+      let two = count-kept (back_of_hear Several) heard long in
       record { shown = λ z e. absurd (omega (arith, two, e)); some = λ z. omega (arith, two); spelt = λ e. omega arith }
   hears-sent (unheard number some other) = refused-sent some other
 
@@ -50,4 +50,4 @@ hear_call-sent {d} {points} {word} {m} {l} {t} {room} {heard = heard} {heard'} {
         let long : heard_bytes ≤ length heard = omega arith in
         let (job, has, number_is, heard-is) = hear_job long call in
         let told = hears-sent heard long (heard-sent sent has) in
-        subst (λ n. SentHeard d n heard') (sym number_is) (subst (SentHeard d (back_of_hear_lem job).number) (sym heard-is) told)
+        subst (λ n. SentHeard d n heard') (sym number_is) (subst (SentHeard d (back_of_hear job).number) (sym heard-is) told)

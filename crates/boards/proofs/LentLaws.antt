@@ -15,7 +15,7 @@ use Rattle.departures.proofs.DepartureLaws.{departure-same}
 use Rattle.boards.specs.declared.Back.{Back}
 use Rattle.boards.specs.declared.departure_calls.HeardBack.{HeardBack}
 use Rattle.boards.specs.Lent.{note_bytes, back_bytes, departure_bytes, heard_bytes, note_of, note_into, back_into, updates_of, finished_of}
-use Rattle.boards.specs.Lent.{bytes_of, departure_in, back_of_hear_lem, heard_into, count_in, Cleared}
+use Rattle.boards.specs.Lent.{bytes_of, departure_in, back_of_hear, heard_into, count_in, Cleared}
 
 -- a note
 
@@ -103,8 +103,8 @@ pub cleared-back : {xs : List ℕ} → back_bytes ≤ length xs → Cleared back
 cleared-back {xs} h = rw (back-front nothing xs h) (cleared-zeros back_bytes h)
 
 -- a refused hear hands back zeros
-pub cleared_heard : (number : ℕ) {xs : List ℕ} → heard_bytes ≤ length xs → Cleared heard_bytes xs (heard_into (back_of_hear_lem (Refused number)) xs)
-cleared_heard number {xs} h = rw (heard-front (back_of_hear_lem (Refused number)) xs h) (cleared-zeros heard_bytes h)
+pub cleared_heard : (number : ℕ) {xs : List ℕ} → heard_bytes ≤ length xs → Cleared heard_bytes xs (heard_into (back_of_hear (Refused number)) xs)
+cleared_heard number {xs} h = rw (heard-front (back_of_hear (Refused number)) xs h) (cleared-zeros heard_bytes h)
 
 pub cleared_determined : {size : ℕ} {xs ys zs : List ℕ} → Cleared size xs ys → Cleared size xs zs → ys ≡ zs
 cleared_determined {size} {xs} {ys} {zs} a b = go (dec_lt (length xs) size)

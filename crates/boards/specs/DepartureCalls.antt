@@ -16,7 +16,7 @@ use Rattle.departures.specs.Hearing.{HasHeard}
 use Rattle.departures.specs.declared.Departure.{Departure}
 use Rattle.departures.specs.declared.Reading.{Reading}
 use Rattle.departures.specs.declared.Heard.{Heard}
-use Rattle.boards.specs.Lent.{departure_bytes, heard_bytes, bytes_of, departure_into, departure_in, back_of_hear_lem, heard_into, count_in, Cleared}
+use Rattle.boards.specs.Lent.{departure_bytes, heard_bytes, bytes_of, departure_into, departure_in, back_of_hear, heard_into, count_in, Cleared}
 
 -- read
 
@@ -41,8 +41,8 @@ hear_call_table points word m l t room heard =
 pub record HearCall (points word : List ℕ) (m l t : ℕ) (room room' heard heard' : List ℕ) (number : ℕ) : Type 0 where
   pub entry : ℕ
   pub first : First (hear_call_table points word m l t room heard) entry
-  pub done : entry ≡ 0 → (job : Heard) × HasHeard points word m l t room room' job × (number ≡ (back_of_hear_lem job).number)
-      × (heard' ≡ heard_into (back_of_hear_lem job) heard)
+  pub done : entry ≡ 0 → (job : Heard) × HasHeard points word m l t room room' job × (number ≡ (back_of_hear job).number)
+      × (heard' ≡ heard_into (back_of_hear job) heard)
   pub refused : (entry ≡ 0 → ⊥) → (number ≡ entry) × (room' ≡ room) × Cleared heard_bytes heard heard'
 
 -- the departure that was sent

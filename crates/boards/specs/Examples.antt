@@ -5,7 +5,7 @@ use Rattle.rows.specs.declared.Note.{Note}
 use Rattle.departures.specs.declared.Departure.{Departure}
 use Rattle.departures.specs.declared.Heard.TheVariants.{One, Several}
 use Rattle.boards.specs.Lent.{note_of, note_into, back_into, updates_of, finished_of}
-use Rattle.boards.specs.Lent.{departure_into, departure_in, back_of_hear_lem, heard_into, count_in}
+use Rattle.boards.specs.Lent.{departure_into, departure_in, back_of_hear, heard_into, count_in}
 
 abbrev lent : List ℕ
 lent = 9 ∷ 9 ∷ 9 ∷ 9 ∷ 9 ∷ 9 ∷ 9 ∷ []
@@ -37,10 +37,10 @@ departure_example = refl
 departure-read : departure_in (departure_into last-boat lent) ≡ last-boat
 departure-read = refl
 
-one_example : heard_into (back_of_hear_lem (One last-boat)) lent ≡ 4 ∷ 112 ∷ 1 ∷ 175 ∷ 5 ∷ 1 ∷ 9 ∷ []
+one_example : heard_into (back_of_hear (One last-boat)) lent ≡ 4 ∷ 112 ∷ 1 ∷ 175 ∷ 5 ∷ 1 ∷ 9 ∷ []
 one_example = refl
 
-several_example : heard_into (back_of_hear_lem Several) lent ≡ 0 ∷ 0 ∷ 0 ∷ 0 ∷ 0 ∷ 2 ∷ 9 ∷ []
+several_example : heard_into (back_of_hear Several) lent ≡ 0 ∷ 0 ∷ 0 ∷ 0 ∷ 0 ∷ 2 ∷ 9 ∷ []
 several_example = refl
 
 count_example : count_in (4 ∷ 112 ∷ 1 ∷ 175 ∷ 5 ∷ 1 ∷ lent) ≡ 1

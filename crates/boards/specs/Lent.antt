@@ -9,7 +9,7 @@
 --   bytes_of d              a departure's bytes: the boat, the day, low byte first, the minute, low byte first
 --   departure_into d xs     xs with the departure in its first bytes
 --   departure_in xs         the departure in the first bytes of xs
---   back_of_hear_lem heard  what hear hands back: the number, the departure, the count; zeros for what there is not
+--   back_of_hear heard  what hear hands back: the number, the departure, the count; zeros for what there is not
 --   heard_into back xs      xs with the departure in its first bytes, and then the count
 --   count_in xs             the count that is there
 --   Cleared size xs ys      ys is xs with its first `size` bytes zero, or xs itself where it has fewer
@@ -71,8 +71,8 @@ departure_into d xs = sets xs 0 (bytes_of d)
 abbrev pub departure_in : List ℕ → Departure
 departure_in xs = record { boat = get_or xs 0 0; day = get_or xs 1 0 + 256 * get_or xs 2 0; minute = get_or xs 3 0 + 256 * get_or xs 4 0 }
 
-abbrev pub back_of_hear_lem : Heard → HeardBack
-back_of_hear_lem heard = record { number = heard_number heard; departure = heard_departure heard; count = heard_count heard }
+abbrev pub back_of_hear : Heard → HeardBack
+back_of_hear heard = record { number = heard_number heard; departure = heard_departure heard; count = heard_count heard }
 
 abbrev pub heard_into : HeardBack → List ℕ → List ℕ
 heard_into back xs = sets xs 0 (bytes_of back.departure ++ back.count ∷ [])

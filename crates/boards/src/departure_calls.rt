@@ -2,7 +2,7 @@
 // departure's five and the count. Where the six are too few hear is asked with no room at all, as lib.rt asks its jobs.
 ghost use Rattle.std.specs.Prelude.{◌≡◌, ◌≤◌, length};
 ghost use Rattle.departures.specs.Jobs.{WritesDeparture, ShowsDeparture};
-ghost use Rattle.boards.specs.Lent.{departure_bytes, heard_bytes, departure_into, back_of_hear_lem, heard_into};
+ghost use Rattle.boards.specs.Lent.{departure_bytes, heard_bytes, departure_into, back_of_hear, heard_into};
 ghost use Rattle.boards.specs.DepartureCalls.{ReadCall, HearCall};
 
 use crate::clear_lent;
@@ -21,7 +21,7 @@ pub struct HeardBack {
 }
 
 fn back_of_hear(heard: Heard) -> HeardBack
-    ensures { result ≡ back_of_hear_lem heard }
+    ensures { result ≡ back_of_hear heard }
 {
     match heard {
         Heard::None => HeardBack {

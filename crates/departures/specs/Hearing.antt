@@ -44,11 +44,11 @@ pub data Says : List (List ℕ) → Heard → Type 0 where
   strange : (x : List ℕ) → (IsDeparture x → ⊥) → Says (x ∷ []) (Refused 15)
   waits : (x y : List ℕ) (list : List (List ℕ)) → Says (x ∷ y ∷ list) Several
 
-module _ (points word : List ℕ) (m l t : ℕ) (room_before Room-after : List ℕ) (back : Heard) where
+module _ (points word : List ℕ) (m l t : ℕ) (room_before room_after : List ℕ) (back : Heard) where
   pub record AnswersBoard : Type 0 where
     pub curve : Curve (symbols departure_field).ring
     pub smallest : TheCurve departure_field points word departure_symbols m l curve
-    pub zeroed : Zeroed working_room room_before Room-after
+    pub zeroed : Zeroed working_room room_before room_after
     pub unvouched : m * t ≤ smallest.weight → back ≡ Refused 13
     pub says : smallest.weight < m * t → (list : List (List ℕ)) × IsList (departure_task points word t) list
         × Says list back
@@ -57,7 +57,7 @@ module _ (points word : List ℕ) (m l t : ℕ) (room_before Room-after : List �
     pub entry : ℕ
     pub first : First (hear_table points word m l t room_before) entry
     pub answers : entry ≡ 0 → AnswersBoard
-    pub refused : (entry ≡ 0 → ⊥) → (back ≡ Refused entry) × (Room-after ≡ room_before)
+    pub refused : (entry ≡ 0 → ⊥) → (back ≡ Refused entry) × (room_after ≡ room_before)
 
 abbrev pub heard_number : Heard → ℕ
 heard_number None = 0

@@ -1,16 +1,19 @@
 // Reads a request, and prints the answer with the messages near the received word.
 #![tactic(auto)]
 
-ghost use Rattle.std.specs.Prelude.{◌≤◌, ◌<◌, length, take, IfOk};
+ghost use Rattle.std.specs.Prelude.{ℕ, ◌≤◌, ◌<◌, length, take, IfOk, IfErr};
 ghost use Rattle.std.specs.Io.KnownBytes.{Consumes, IsAtEnd};
 
 use std::io;
 use std::io::Read;
 
-// Reads until the buffer is full or the input ends; how many bytes it put at the beginning of the buffer.
+// Reads until the buffer is full or the input ends; how many bytes it put at the beginning of the buffer. At an error the bytes that came
+// before it stand there.
 fn read_full<R: Read>(input: &mut R, buffer: &mut [u8]) -> io::Result<usize>
     ensures bound { IfOk result (λ got. got ≤ length buffer.new) }
     ensures bytes { IfOk result (λ got. Consumes (R.remaining input.old) (R.remaining input.new) (take got buffer.new)) }
+    ensures failed { IfErr result (λ _. (got : ℕ) × (got ≤ length buffer.new)
+        × Consumes (R.remaining input.old) (R.remaining input.new) (take got buffer.new)) }
     ensures end { IfOk result (λ got. got < length buffer.new → IsAtEnd (R.remaining input.new)) }
 {
     let mut got = 0;

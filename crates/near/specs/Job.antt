@@ -61,15 +61,15 @@ module _ (p : ℕ) (points word : List ℕ) (k m l : ℕ) where
       pub written : take (length list * k) after ≡ flat list
       pub rest : Untouched (length list * k) before after
 
-    pub record Answers (room_before Room-after before after : List ℕ) (back : Near) : Type 0 where
+    pub record Answers (room_before room_after before after : List ℕ) (back : Near) : Type 0 where
       pub curve : Curve (symbols p).ring
       pub smallest : TheCurve p points word k m l curve
-      pub zeroed : Zeroed working_room room_before Room-after
+      pub zeroed : Zeroed working_room room_before room_after
       pub unvouched : m * t ≤ smallest.weight → (back ≡ refusal 13) × (after ≡ before)
       pub lists : smallest.weight < m * t → Lists smallest.weight before after back
 
-    pub record HasListed (room_before Room-after before after : List ℕ) (back : Near) : Type 0 where
+    pub record HasListed (room_before room_after before after : List ℕ) (back : Near) : Type 0 where
       pub entry : ℕ
       pub first : First (list_table p points word k m l t room_before before) entry
-      pub answers : entry ≡ 0 → Answers room_before Room-after before after back
-      pub refused : (entry ≡ 0 → ⊥) → (back ≡ refusal entry) × (Room-after ≡ room_before) × (after ≡ before)
+      pub answers : entry ≡ 0 → Answers room_before room_after before after back
+      pub refused : (entry ≡ 0 → ⊥) → (back ≡ refusal entry) × (room_after ≡ room_before) × (after ≡ before)

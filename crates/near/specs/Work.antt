@@ -134,11 +134,11 @@ pub record Ran (k : ℕ) (list : List (List ℕ)) (before after : List ℕ) (r :
   pub written : take (length list * k) after ≡ flat list
   pub rest : Untouched (length list * k) before after
 
-pub record FoundCurve (p : ℕ) (points word : List ℕ) (k m l : ℕ) (room_before Room-after before after : List ℕ) (back : Weighed) : Type 0 where
+pub record FoundCurve (p : ℕ) (points word : List ℕ) (k m l : ℕ) (room_before room_after before after : List ℕ) (back : Weighed) : Type 0 where
   pub curve : Curve (symbols p).ring
   pub smallest : TheCurve p points word k m l curve
   pub bytes : HoldsCurve (shape p (length points) k m l) after curve
   pub long : length after ≡ length before
   pub weight_is : back.weight ≡ smallest.weight
   pub updates_are : RuleUpdates p points word k m l back.updates
-  pub rest : Untouched working_room room_before Room-after
+  pub rest : Untouched working_room room_before room_after

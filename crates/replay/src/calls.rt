@@ -2,7 +2,7 @@
 ghost use Rattle.std.specs.Prelude.{◌≡◌, ◌≤◌, length, IfOk};
 
 use std::io;
-use std::io::{ErrorKind, Read};
+use std::io::{ErrorKind, Read, Stdin};
 
 // Of the jobs on departures, write and show have the boat as p, the day as allowance and the minute as second length; read has its message as
 // symbols without points, and hear is as list.
@@ -29,8 +29,9 @@ fn both(low: u8, high: u8) -> u16 {
 }
 
 // Fills the buffer from standard input; false where the input ends before it is full.
-fn fills(rt: &impl Input, buffer: &mut [u8]) -> io::Result<bool> {
-    match rt.reader().read_exact(buffer) {
+fn fills(stdin: Stdin, buffer: &mut [u8]) -> io::Result<bool> {
+    let mut input = stdin;
+    match input.read_exact(buffer) {
         Ok(()) => Ok(true),
         Err(error) => {
             if error.kind() == ErrorKind::UnexpectedEof {
@@ -42,9 +43,9 @@ fn fills(rt: &impl Input, buffer: &mut [u8]) -> io::Result<bool> {
 }
 
 // The next header; one that is not whole has job 0.
-pub fn next(rt: &impl Input) -> io::Result<Call> {
+pub fn next(stdin: Stdin) -> io::Result<Call> {
     let mut header = [0u8; 24];
-    if !fills(rt, &mut header)? {
+    if !fills(stdin, &mut header)? {
         header[0] = 0;
     }
     Ok(Call {
@@ -74,26 +75,28 @@ pub fn is_one(call: Call) -> bool {
 }
 
 // The next n bytes, at the beginning of `out`.
-fn read(rt: &impl Input, out: &mut [u8], n: usize) -> io::Result<()>
+fn read(stdin: Stdin, out: &mut [u8], n: usize) -> io::Result<()>
     requires { n ≤ length out.old }
 {
-    fills(rt, &mut out[..n])?;
+    fills(stdin, &mut out[..n])?;
     Ok(())
 }
 
-pub fn symbols(rt: &impl Input, n: u8) -> io::Result<[u8; 256]>
+// An error is the input's, and nothing is lent that it could leave changed.
+pub fn symbols(stdin: Stdin, n: u8) -> io::Result<[u8; 256]>
     ensures { IfOk result (λ bytes. 256 ≡ length bytes) }
 {
     let mut bytes = [0u8; 256];
-    read(rt, &mut bytes, n as usize)?;
+    read(stdin, &mut bytes, n as usize)?;
     Ok(bytes)
 }
 
-pub fn text(rt: &impl Input, n: u16) -> io::Result<[u8; 65536]>
+// As symbols.
+pub fn text(stdin: Stdin, n: u16) -> io::Result<[u8; 65536]>
     ensures { IfOk result (λ bytes. 65536 ≡ length bytes) }
 {
     let mut bytes = [0u8; 65536];
-    read(rt, &mut bytes, n as usize)?;
+    read(stdin, &mut bytes, n as usize)?;
     Ok(bytes)
 }
 

@@ -1,4 +1,5 @@
-// One call to the library for each job, and the line that tells what came back.
+// One call to the library for each job, and the line that tells what came back. Where that can't be written the buffers are as the job left
+// them, and the error ends the program.
 ghost use Rattle.rows.specs.Jobs.{HasTurned};
 
 use crate::printing;

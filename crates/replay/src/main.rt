@@ -9,15 +9,16 @@ use calls::Call;
 use departures::Departure;
 use rows::Note;
 use std::io;
+use std::io::Stdin;
 
 mod calls; // calls.rt: the stored calls, read from standard input
 mod jobs; // jobs.rt: one call to the library, and its line
 mod printing; // printing.rt: what lines are made of
 
 // A buffer has 65,536 bytes, so that every length that a call can ask for is within it.
-fn encode(rt: &(impl Input + Print), p: u8, n: u8, count: u8, lent: u16) -> io::Result<()> {
-    let points = calls::symbols(rt, n)?;
-    let message = calls::symbols(rt, count)?;
+fn encode(rt: &impl Print, stdin: Stdin, p: u8, n: u8, count: u8, lent: u16) -> io::Result<()> {
+    let points = calls::symbols(stdin, n)?;
+    let message = calls::symbols(stdin, count)?;
     let mut word = calls::room();
     let n = n as usize;
     let count = count as usize;
@@ -26,7 +27,8 @@ fn encode(rt: &(impl Input + Print), p: u8, n: u8, count: u8, lent: u16) -> io::
 }
 
 fn start(
-    rt: &(impl Input + Print),
+    rt: &impl Print,
+    stdin: Stdin,
     p: u8,
     n: u8,
     count: u8,
@@ -38,8 +40,8 @@ fn start(
 ) -> io::Result<Note>
     requires { 65536 ≤ length rows.old }
 {
-    let points = calls::symbols(rt, n)?;
-    let word = calls::symbols(rt, count)?;
+    let points = calls::symbols(stdin, n)?;
+    let word = calls::symbols(stdin, count)?;
     calls::fill(rows);
     let n = n as usize;
     let count = count as usize;
@@ -86,7 +88,8 @@ fn finish(rt: &impl Print, note: Note, lent: u16, second: u16, rows: &[u8]) -> i
 }
 
 fn list(
-    rt: &(impl Input + Print),
+    rt: &impl Print,
+    stdin: Stdin,
     p: u8,
     n: u8,
     count: u8,
@@ -97,8 +100,8 @@ fn list(
     lent: u16,
     second: u16,
 ) -> io::Result<()> {
-    let points = calls::symbols(rt, n)?;
-    let word = calls::symbols(rt, count)?;
+    let points = calls::symbols(stdin, n)?;
+    let word = calls::symbols(stdin, count)?;
     let mut room = calls::room();
     let mut messages = calls::room();
     let n = n as usize;
@@ -119,8 +122,8 @@ fn list(
     )
 }
 
-fn program(rt: &(impl Input + Print), len: u16) -> io::Result<()> {
-    let text = calls::text(rt, len)?;
+fn program(rt: &impl Print, stdin: Stdin, len: u16) -> io::Result<()> {
+    let text = calls::text(stdin, len)?;
     let len = len as usize;
     jobs::program(rt, &text[..len])
 }
@@ -137,8 +140,8 @@ fn write(rt: &impl Print, departure: Departure, lent: u16) -> io::Result<()> {
     jobs::write(rt, departure, &mut message[..lent])
 }
 
-fn read(rt: &(impl Input + Print), count: u8) -> io::Result<()> {
-    let message = calls::symbols(rt, count)?;
+fn read(rt: &impl Print, stdin: Stdin, count: u8) -> io::Result<()> {
+    let message = calls::symbols(stdin, count)?;
     let count = count as usize;
     jobs::read(rt, &message[..count])
 }
@@ -150,7 +153,8 @@ fn show(rt: &impl Print, departure: Departure, lent: u16) -> io::Result<()> {
 }
 
 fn hear(
-    rt: &(impl Input + Print),
+    rt: &impl Print,
+    stdin: Stdin,
     n: u8,
     count: u8,
     m: u8,
@@ -158,8 +162,8 @@ fn hear(
     t: u8,
     lent: u16,
 ) -> io::Result<()> {
-    let points = calls::symbols(rt, n)?;
-    let word = calls::symbols(rt, count)?;
+    let points = calls::symbols(stdin, n)?;
+    let word = calls::symbols(stdin, count)?;
     let mut room = calls::room();
     let n = n as usize;
     let count = count as usize;
@@ -168,7 +172,7 @@ fn hear(
 }
 
 // Makes one call on departures.
-fn replay_departure(rt: &(impl Input + Print), call: Call) -> io::Result<()> {
+fn replay_departure(rt: &impl Print, stdin: Stdin, call: Call) -> io::Result<()> {
     let job = call.job;
     let departure = Departure {
         boat: call.p,
@@ -177,9 +181,11 @@ fn replay_departure(rt: &(impl Input + Print), call: Call) -> io::Result<()> {
     };
     match job {
         9 => write(rt, departure, call.lent),
-        10 => read(rt, call.count),
+        10 => read(rt, stdin, call.count),
         11 => show(rt, departure, call.lent),
-        _ => hear(rt, call.n, call.count, call.m, call.l, call.t, call.lent),
+        _ => hear(
+            rt, stdin, call.n, call.count, call.m, call.l, call.t, call.lent,
+        ),
     }
 }
 
@@ -199,14 +205,20 @@ fn taken(call: Call, kept: Note) -> Note {
 }
 
 // Makes one call; hands back the note to keep.
-fn replay(rt: &(impl Input + Print), call: Call, kept: Note, rows: &mut [u8]) -> io::Result<Note>
+fn replay(
+    rt: &impl Print,
+    stdin: Stdin,
+    call: Call,
+    kept: Note,
+    rows: &mut [u8],
+) -> io::Result<Note>
     requires { 65536 ≤ length rows.old }
 {
     let job = call.job;
     let note = taken(call, kept);
     if job == 2 {
         return start(
-            rt, call.p, call.n, call.count, call.k, call.m, call.l, call.lent, rows,
+            rt, stdin, call.p, call.n, call.count, call.k, call.m, call.l, call.lent, rows,
         );
     }
     if job == 3 {
@@ -216,10 +228,11 @@ fn replay(rt: &(impl Input + Print), call: Call, kept: Note, rows: &mut [u8]) ->
         return turn_in_place(rt, note, call.allowance, call.lent, rows);
     }
     match job {
-        1 => encode(rt, call.p, call.n, call.count, call.lent),
+        1 => encode(rt, stdin, call.p, call.n, call.count, call.lent),
         5 => finish(rt, note, call.lent, call.second, rows),
         6 => list(
             rt,
+            stdin,
             call.p,
             call.n,
             call.count,
@@ -230,18 +243,18 @@ fn replay(rt: &(impl Input + Print), call: Call, kept: Note, rows: &mut [u8]) ->
             call.lent,
             call.second,
         ),
-        7 => program(rt, call.lent),
+        7 => program(rt, stdin, call.lent),
         8 => {
             change(call.allowance, call.byte, rows);
             Ok(())
         }
-        _ => replay_departure(rt, call),
+        _ => replay_departure(rt, stdin, call),
     }?;
     Ok(kept)
 }
 
 // Nothing says that the input ends, so the loop counts down from a number that no input reaches.
-fn replay_all(rt: &(impl Input + Print), rows: &mut [u8]) -> io::Result<()>
+fn replay_all(rt: &impl Print, stdin: Stdin, rows: &mut [u8]) -> io::Result<()>
     requires { 65536 ≤ length rows.old }
 {
     let mut note = Note {
@@ -254,11 +267,11 @@ fn replay_all(rt: &(impl Input + Print), rows: &mut [u8]) -> io::Result<()>
     };
     let mut left = u64::MAX;
     while 0 < left {
-        let call = calls::next(rt)?;
+        let call = calls::next(stdin)?;
         if !calls::is_one(call) {
             return Ok(());
         }
-        note = replay(rt, call, note, rows)?;
+        note = replay(rt, stdin, call, note, rows)?;
         left -= 1;
     }
     Ok(())
@@ -266,5 +279,5 @@ fn replay_all(rt: &(impl Input + Print), rows: &mut [u8]) -> io::Result<()>
 
 fn main(rt: HostRuntime) -> io::Result<()> {
     let mut rows = calls::room();
-    replay_all(&rt, &mut rows)
+    replay_all(&rt, rt.stdin(), &mut rows)
 }
