@@ -17,18 +17,16 @@ use Rattle.near.proofs.refusals.refuse_list.Goals.{then-room-lt-WORKING_ROOM-via
 
 pub returns-then-number-ne0 : goal.returns-then-number-ne0
 returns-then-number-ne0 c =
-    first-stops 7 ((let a = c.args in list_table a.p a.points.now a.word.now a.k a.m a.l a.t a.room.now a.messages.now))
-    c.refuse_request-number.result
-    c.refuse_request-number.ensures c.if-number-ne0.true
+    let a = c.args in
+    first-stops 7 (list_table a.p a.points.now a.word.now a.k a.m a.l a.t a.room.now a.messages.now)
+    c.refuse_request-number.result c.refuse_request-number.ensures c.if-number-ne0.true
 
 pub returns-then-t-lt1 : goal.returns-then-t-lt1
 returns-then-t-lt1 c =
-    let past-7 : (n : ℕ) → First (drop 7 ((let a = c.args in list_table a.p a.points.now a.word.now a.k a.m a.l a.t a.room.now
-    a.messages.now))) n → First ((let a = c.args in list_table a.p a.points.now a.word.now a.k a.m a.l a.t a.room.now a.messages.now))
-    n =
-    λ n f. first-goes 7 ((let a = c.args in list_table a.p a.points.now a.word.now a.k a.m a.l a.t a.room.now a.messages.now)) n
-    (search rules) (rw c.if-number-ne0.false at c.refuse_request-number.ensures) f in
-    past-7 8 (inl (
+    let a = c.args in
+    first-goes 7 (list_table a.p a.points.now a.word.now a.k a.m a.l a.t a.room.now a.messages.now) 8 (search rules)
+    (rw c.if-number-ne0.false at c.refuse_request-number.ensures)
+    (inl (
       elim c.then-t-lt1.branch [
         | then-t-lt1-via-then-t-lt1 w ↦ inl w.if-t-lt1.true
         | then-t-lt1-via-else-t-lt1+then-points-t w ↦ inr w.if-points-t.true
@@ -43,32 +41,23 @@ overflow_mul-l c =
 
 pub returns-then-room-lt-WORKING_ROOM : goal.returns-then-room-lt-WORKING_ROOM
 returns-then-room-lt-WORKING_ROOM c =
-    let past-7 : (n : ℕ) → First (drop 7 ((let a = c.args in list_table a.p a.points.now a.word.now a.k a.m a.l a.t a.room.now
-    a.messages.now))) n → First ((let a = c.args in list_table a.p a.points.now a.word.now a.k a.m a.l a.t a.room.now a.messages.now))
-    n =
-    λ n f. first-goes 7 ((let a = c.args in list_table a.p a.points.now a.word.now a.k a.m a.l a.t a.room.now a.messages.now)) n
-    (search rules) (rw c.if-number-ne0.false at c.refuse_request-number.ensures) f in
-    let past-8 : (n : ℕ) → First (drop 8 ((let a = c.args in list_table a.p a.points.now a.word.now a.k a.m a.l a.t a.room.now
-    a.messages.now))) n → First ((let a = c.args in list_table a.p a.points.now a.word.now a.k a.m a.l a.t a.room.now a.messages.now))
-    n =
-    λ n f. past-7 n (inr (⊎_elim (λ w. omega arith) (λ w. omega (arith, ltb-false)), f)) in
-    past-8 9 (inl (
-      elim c.then-room-lt-WORKING_ROOM.branch [
-        | then-room-lt-WORKING_ROOM-via-then-room-lt-WORKING_ROOM w ↦ inl w.if-room-lt-WORKING_ROOM.true
-        | then-room-lt-WORKING_ROOM-via-else-room-lt-WORKING_ROOM+then-messages-l w ↦ inr w.if-messages-l.true
-      ],
-      refl,
+    let a = c.args in
+    first-goes 7 (list_table a.p a.points.now a.word.now a.k a.m a.l a.t a.room.now a.messages.now) 9 (search rules)
+    (rw c.if-number-ne0.false at c.refuse_request-number.ensures)
+    (inr (
+      ⊎_elim (λ w. omega arith) (λ w. omega arith),
+      inl (
+        elim c.then-room-lt-WORKING_ROOM.branch [
+          | then-room-lt-WORKING_ROOM-via-then-room-lt-WORKING_ROOM w ↦ inl w.if-room-lt-WORKING_ROOM.true
+          | then-room-lt-WORKING_ROOM-via-else-room-lt-WORKING_ROOM+then-messages-l w ↦ inr w.if-messages-l.true
+        ],
+        refl,
+      ),
     ))
 
 pub returns : goal.returns
 returns c =
-    let past-7 : (n : ℕ) → First (drop 7 ((let a = c.args in list_table a.p a.points.now a.word.now a.k a.m a.l a.t a.room.now
-    a.messages.now))) n → First ((let a = c.args in list_table a.p a.points.now a.word.now a.k a.m a.l a.t a.room.now a.messages.now))
-    n =
-    λ n f. first-goes 7 ((let a = c.args in list_table a.p a.points.now a.word.now a.k a.m a.l a.t a.room.now a.messages.now)) n
-    (search rules) (rw c.if-number-ne0.false at c.refuse_request-number.ensures) f in
-    let past-8 : (n : ℕ) → First (drop 8 ((let a = c.args in list_table a.p a.points.now a.word.now a.k a.m a.l a.t a.room.now
-    a.messages.now))) n → First ((let a = c.args in list_table a.p a.points.now a.word.now a.k a.m a.l a.t a.room.now a.messages.now))
-    n =
-    λ n f. past-7 n (inr (⊎_elim (λ w. omega arith) (λ w. omega (arith, ltb-false)), f)) in
-    past-8 0 (inr (⊎_elim (λ w. omega arith) (λ w. omega (arith, ltb-false)), refl))
+    let a = c.args in
+    first-goes 7 (list_table a.p a.points.now a.word.now a.k a.m a.l a.t a.room.now a.messages.now) 0 (search rules)
+    (rw c.if-number-ne0.false at c.refuse_request-number.ensures)
+    (inr (⊎_elim (λ w. omega arith) (λ w. omega arith), inr (⊎_elim (λ w. omega arith) (λ w. omega arith), refl)))

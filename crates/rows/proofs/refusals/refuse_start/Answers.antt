@@ -16,46 +16,42 @@ use Rattle.rows.proofs.refusals.refuse_start.Goals as goal
 
 pub returns-then-number-ne0 : goal.returns-then-number-ne0
 returns-then-number-ne0 c =
-    first-stops 7 ((let a = c.args in start_table a.p a.points.now a.word.now a.k a.m a.l a.rows.now)) c.refuse_request-number.result
-    c.refuse_request-number.ensures
-    c.if-number-ne0.true
+    let a = c.args in
+    first-stops 7 (start_table a.p a.points.now a.word.now a.k a.m a.l a.rows.now) c.refuse_request-number.result
+    c.refuse_request-number.ensures c.if-number-ne0.true
 
 pub overflow_cast-points : goal.overflow_cast-points
 overflow_cast-points c =
-    let accepted : let a =
-    c.args in Requested a.p a.points.now a.word.now a.k a.m a.l = request-accepted c.refuse_request-number.ensures
-    c.if-number-ne0.false in
-    let r = accepted in let s = r.places.size in let n = r.places.count in omega arith
+    let a = c.args in
+    let r : Requested a.p a.points.now a.word.now a.k a.m a.l = request-accepted c.refuse_request-number.ensures c.if-number-ne0.false in
+    let s = r.places.size in
+    let n = r.places.count in
+    omega arith
 
 pub of-shape-requires : goal.of-shape-requires
 of-shape-requires c =
-    let accepted : let a =
-    c.args in Requested a.p a.points.now a.word.now a.k a.m a.l = request-accepted c.refuse_request-number.ensures
-    c.if-number-ne0.false in
-    let r = accepted in let k = r.low in (omega arith, r.heights.order)
+    let a = c.args in
+    let r : Requested a.p a.points.now a.word.now a.k a.m a.l = request-accepted c.refuse_request-number.ensures c.if-number-ne0.false in
+    let k = r.low in
+    (omega arith, r.heights.order)
 
 pub rows_bytes-requires : goal.rows_bytes-requires
 rows_bytes-requires c =
-    let accepted : let a =
-    c.args in Requested a.p a.points.now a.word.now a.k a.m a.l = request-accepted c.refuse_request-number.ensures
-    c.if-number-ne0.false in
-    let fine : let a =
-    c.args in Fine (shape a.p (length a.points.now) a.k a.m a.l) = let r = accepted in fine-shape r.places.size r.places.count r.degree
-    r.heights in
-    rw c.of-shape.ensures fine
+    let a = c.args in
+    let r : Requested a.p a.points.now a.word.now a.k a.m a.l = request-accepted c.refuse_request-number.ensures c.if-number-ne0.false in
+    rw c.of-shape.ensures (fine-shape r.places.size r.places.count r.degree r.heights)
 
 pub returns-then-rows-rows_bytes : goal.returns-then-rows-rows_bytes
 returns-then-rows-rows_bytes c =
-    let past : (n : ℕ) → First (drop 7 ((let a = c.args in start_table a.p a.points.now a.word.now a.k a.m a.l a.rows.now))) n
-    → First ((let a = c.args in start_table a.p a.points.now a.word.now a.k a.m a.l a.rows.now)) n =
-    λ n f. first-goes 7 ((let a = c.args in start_table a.p a.points.now a.word.now a.k a.m a.l a.rows.now)) n (search rules)
-    (rw c.if-number-ne0.false at c.refuse_request-number.ensures) f in
-    past 9 (inl (rw (c.rows_bytes.ensures, c.of-shape.ensures) at c.if-rows-rows_bytes.true, refl))
+    let a = c.args in
+    first-goes 7 (start_table a.p a.points.now a.word.now a.k a.m a.l a.rows.now) 9 (search rules)
+    (rw c.if-number-ne0.false at c.refuse_request-number.ensures)
+    (inl (rw (c.rows_bytes.ensures, c.of-shape.ensures) at c.if-rows-rows_bytes.true, refl))
 
 pub returns : goal.returns
 returns c =
-    let past : (n : ℕ) → First (drop 7 ((let a = c.args in start_table a.p a.points.now a.word.now a.k a.m a.l a.rows.now))) n
-    → First ((let a = c.args in start_table a.p a.points.now a.word.now a.k a.m a.l a.rows.now)) n =
-    λ n f. first-goes 7 ((let a = c.args in start_table a.p a.points.now a.word.now a.k a.m a.l a.rows.now)) n (search rules)
-    (rw c.if-number-ne0.false at c.refuse_request-number.ensures) f in
-    past 0 (inr (λ w. let g = rw (c.rows_bytes.ensures, c.of-shape.ensures) at c.if-rows-rows_bytes.false in omega arith, refl))
+    let a = c.args in
+    let g = rw (c.rows_bytes.ensures, c.of-shape.ensures) at c.if-rows-rows_bytes.false in
+    first-goes 7 (start_table a.p a.points.now a.word.now a.k a.m a.l a.rows.now) 0 (search rules)
+    (rw c.if-number-ne0.false at c.refuse_request-number.ensures)
+    (inr (λ w. omega arith, refl))
