@@ -210,9 +210,6 @@ def main():
             changed += 1
             with open(p, "w", encoding="utf-8") as it:
                 it.write(t)
-    with open("/tmp/respelled.tsv", "w", encoding="utf-8") as it:
-        for x in sorted(final):
-            it.write(f"{x}\t{ported[x]}\t{final[x]}\n")
     print(f"respell: {len(final)} names, {len(page)} spelled anew, {changed} files")
 
 
