@@ -14,8 +14,8 @@ module _ (p top : ℕ) (f xs : List ℕ) where
   convolution-none = refl
 
   -- one product more, to a number that stands for the sum so far
-  pub convolution-more : (i n q s : ℕ) → symbol p n ≡ convolution p top i f xs
-      → symbol p q ≡ product_of p (symbol p (get_or f i 0)) (symbol p (get_or xs (top - i) 0)) → symbol p s ≡ sum_of p (symbol p n) (symbol p q)
+  pub convolution-more : (i n s : ℕ) → symbol p n ≡ convolution p top i f xs
+      → symbol p s ≡ sum_of p (symbol p n) (product_of p (symbol p (get_or f i 0)) (symbol p (get_or xs (top - i) 0)))
       → symbol p s ≡ convolution p top (i + 1) f xs
   unfolding sum
-  convolution-more i n q s is product added = rw (add-one i, added, is, product)
+  convolution-more i n s is added = rw (add-one i, added, is)

@@ -1,19 +1,23 @@
 -- What stands where after a row kernel.
-use mathlib.Core.Path.{◌≡◌, sym, ◌∙◌}
+use mathlib.Core.Path.{◌≡◌, refl, ap, ◌∙◌}
 use mathlib.Core.List.{List}
-use mathlib.Core.Logic.{◌⊎◌, inl, inr, ⊎_elim, ◌≢◌}
-use Prim.Native.Nat.{ℕ, zero, suc, ◌+◌, ◌-◌, ◌*◌, ◌%◌, ◌<◌, ◌≤◌}
+use mathlib.Core.Logic.{◌⊎◌, inl, inr, ⊎_elim}
+use Prim.Native.Nat.{ℕ, zero, suc, ◌+◌, ◌-◌, ◌<◌, ◌≤◌}
 use native.Mathlib.Numerals.{add-one}
 use native.Mathlib.Decide.{dec_lt}
 use native.Mathlib.Omega.{arith}
-use lib.ListN.{length, get_or, set}
-use lib.Seq.{length-sets}
+use lib.ListN.{length, get_or, set, take, drop}
+use lib.Seq.{length-sets, sets, take-set-lt}
+use borrow.Rule.Slice.PartMut.{put_mid}
+use Rattle.std.proofs.lemmas.List.{length-take, length-drop, get_or-take, get_or-drop, drop-set-add, drop-drop, append_assoc}
+use Rattle.std.proofs.lemmas.List.Edits.{sets-eq}
+use Rattle.std.proofs.lemmas.Slice.{between-put_mid}
 use Rattle.field.specs.Lists.{tabulate}
 use Rattle.field.specs.Symbols.{symbol, sum_of, product_of, negative_of}
 use Rattle.field.specs.Operations.{minus_bytes, times_bytes, Listed}
 use Rattle.field.specs.Kernels.{Subtracts, Scales, subtracted, scaled}
-use Rattle.field.proofs.Lists.{sets-tabulate-zero, sets-tabulate-suc, sets-tabulate-inside, sets-tabulate-outside}
-use Rattle.field.proofs.OperationLaws.{symbol-minus_bytes, symbol-times_bytes, minus-times-mod, minus_bytes-below, times_bytes-below}
+use Rattle.field.proofs.Lists.{length-tabulate, sets-tabulate-zero, sets-tabulate-suc, sets-tabulate-inside, sets-tabulate-outside}
+use Rattle.field.proofs.OperationLaws.{symbol-minus_bytes, symbol-times_bytes, minus_bytes-below, times_bytes-below}
 
 module _ (p c to from : ℕ) (xs : List ℕ) where
   -- the byte that comes to stand at `to + i`
@@ -69,10 +73,6 @@ module _ {p c to from len : ℕ} {xs ys : List ℕ} (a : Subtracts p c to from l
       let w : v ≡ less p c to from xs i = d ∙ rw (target-kept, source-kept) in
       rw (add-one, subtracted-suc p c to from xs i, ← e, ← w)
 
-  pub subtracted-more-mod : p ≢ 16 → {v : ℕ} → v ≡ (get_or ys (to + i) 0 + (p - c) * get_or ys (from + i) 0) % p
-      → set ys (to + i) v ≡ subtracted p c to from (i + 1) xs
-  subtracted-more-mod other d = subtracted-more (d ∙ sym (minus-times-mod p other (get_or ys (to + i) 0) (get_or ys (from + i) 0) a.factor))
-
 module _ (p c at : ℕ) (xs : List ℕ) where
   abbrev times : ℕ → ℕ
   times i = times_bytes p c (get_or xs (at + i) 0)
@@ -116,6 +116,54 @@ module _ {p c at len : ℕ} {xs ys : List ℕ} (a : Scales p c at len xs) (i : �
   scaled-more {v} d =
       let w : v ≡ times p c at xs i = d ∙ rw scaled-kept in
       rw (add-one, scaled-suc p c at xs i, ← e, ← w)
+
+-- a loop over the region alone, the slice from `at` to `at + len`: its entries after i steps, and the whole once they are back
+module _ {p c at len : ℕ} {xs : List ℕ} (a : Scales p c at len xs) where
+  abbrev size : ℕ
+  size = at + len - at
+
+  size-len : size ≡ len
+  size-len = omega arith
+
+  abbrev pub part : ℕ → List ℕ
+  part i = take size (drop at (scaled p c at i xs))
+
+  pub part-zero : take size (drop at xs) ≡ part zero
+  part-zero = rw (scaled-zero p c at xs)
+
+  pub part-length : length (take size (drop at xs)) ≡ len
+  part-length = omega (arith, a.target.within, length-take size (drop at xs), length-drop at xs)
+
+  module _ (i : ℕ) (h : i < length (take size (drop at xs))) where
+    inside : i < len
+    inside = omega (arith, h, part-length)
+
+    part-entry : get_or (part i) i 0 ≡ get_or (scaled p c at i xs) (at + i) 0
+    part-entry = get_or-take size (drop at (scaled p c at i xs)) i 0 (omega (arith, inside)) ∙ get_or-drop at (scaled p c at i xs) i 0
+
+    pub part-below : get_or (part i) i 0 < p
+    part-below = rw part-entry (scaled-next-below a i inside refl)
+
+    pub part-more : {v : ℕ} → v ≡ times_bytes p c (get_or (part i) i 0) → set (part i) i v ≡ part (i + 1)
+    part-more {v} d =
+        rw (
+          ← take-set-lt size (drop at (scaled p c at i xs)) i v (omega (arith, inside)),
+          ← drop-set-add at (scaled p c at i xs) i v,
+          scaled-more a i inside refl (d ∙ ap (times_bytes p c) part-entry),
+        )
+
+  pub part-back : put_mid at size xs (part len) ≡ scaled p c at len xs
+  unfolding scaled
+  part-back =
+      let new = tabulate len (times p c at xs) in
+      let count = length-tabulate len (times p c at xs) in
+      let within = a.target.within in
+      let room : at + length new ≤ length xs = omega (arith, within, count) in
+      let whole : put_mid at size xs new ≡ sets xs at new =
+      rw (size-len, sets-eq new xs at room, count, append_assoc (take at xs) new (drop (at + len) xs), drop-drop) in
+      let inner : take size (drop at (sets xs at new)) ≡ new =
+      rw (← whole) (between-put_mid at size xs new (at + len) (omega (arith, within)) (omega (arith, count))) in
+      rw inner whole
 
 -- bytes below p stay below p, if those in a region come to be so and the others are kept
 below-keeps : {p : ℕ} (at len : ℕ) (xs ys : List ℕ) → ((q : ℕ) → (q < at) ⊎ (at + len ≤ q) → get_or ys q 0 ≡ get_or xs q 0)

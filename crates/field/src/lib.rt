@@ -6,27 +6,26 @@ ghost use Rattle.field.specs.Symbols.{listed, symbols};
 ghost use Rattle.field.specs.Operations.{Operand, Operands, plus_bytes, minus_bytes, times_bytes, neg_byte, inv_byte, pow_byte, Listed};
 ghost use Rattle.field.specs.Kernels.{Subtracts, Scales, Convolves, subtracted, scaled, convolution};
 
+pub mod kernels; // kernels.rt: the loops over symbols' bytes, for all fields
 mod modulo; // modulo.rt: the fields modulo a prime
 mod sixteen; // sixteen.rt: the field of 16, bit polynomials of four bits
 
-use modulo::{reciprocal, reduce};
+use modulo::{ModuloFactor, ModuloSum, reciprocal, reduce};
+use sixteen::{BitFactor, BitSum};
 
 pub fn is_listed(p: u8) -> bool
     ensures { result ≡ listed p }
 {
-    match p {
-        3 | 5 | 7 | 11 | 13 | 17 | 19 | 23 | 29 | 31 => true,
-        // an arm of its own: beside 17 the compiler would make a range of the two
-        16 => true,
-        _ => false,
-    }
+    p == 16 || matches!(p, 3 | 5 | 7 | 11 | 13 | 17 | 19 | 23 | 29 | 31)
 }
 
-#[derive(Clone, Copy)]
+#[derive(Clone, Copy, PartialEq, Eq)]
 pub struct Symbol {
     pub value: u8,
 }
 
+// A field comes from the callers as its size, so each operation asks for 16 itself. That the symbols are below p stays a clause: ZERO and ONE are
+// symbols of every field, and know none.
 impl Symbol {
     pub const ZERO: Symbol = Symbol { value: 0 };
 
@@ -94,10 +93,9 @@ impl Symbol {
                 value: sixteen::product(self.value, other.value),
             };
         }
-        let x = self.value as u16 * other.value as u16;
-        let g = reciprocal(p);
+        let x = u16::from(self.value) * u16::from(other.value);
         Symbol {
-            value: reduce(x, p, g),
+            value: reduce(x, p, reciprocal(p)),
         }
     }
 
@@ -113,10 +111,9 @@ impl Symbol {
                 value: self.value ^ product,
             };
         }
-        let z = self.value as u16 + x.value as u16 * y.value as u16;
-        let g = reciprocal(p);
+        let z = u16::from(self.value) + u16::from(x.value) * u16::from(y.value);
         Symbol {
-            value: reduce(z, p, g),
+            value: reduce(z, p, reciprocal(p)),
         }
     }
 
@@ -139,14 +136,10 @@ impl Symbol {
     {
         let mut result = Symbol::ONE;
         let mut base = self;
-        let mut left = exponent;
-        let mut steps = 5u8;
-        while 0 < steps {
-            let factor = base.factor(left, p);
+        for bit in 0..5u8 {
+            let factor = base.factor(exponent >> bit, p);
             result = result.product(factor, p);
             base = base.product(base, p);
-            left = left / 2;
-            steps -= 1;
         }
         result
     }
@@ -166,9 +159,10 @@ pub fn subtract(rows: &mut [u8], to: usize, from: usize, len: usize, c: Symbol, 
     ensures { rows.new ≡ subtracted p c.value to from len rows.old }
 {
     if p == 16 {
-        sixteen::subtract(rows, to, from, len, c.value);
+        kernels::subtract(rows, to, from, len, &BitFactor { c });
     } else {
-        modulo::subtract(rows, to, from, len, c.value, p);
+        let g = reciprocal(p);
+        kernels::subtract(rows, to, from, len, &ModuloFactor { c, p, g });
     }
 }
 
@@ -178,9 +172,10 @@ pub fn scale(rows: &mut [u8], at: usize, len: usize, c: Symbol, p: u8)
     ensures { rows.new ≡ scaled p c.value at len rows.old }
 {
     if p == 16 {
-        sixteen::scale(rows, at, len, c.value);
+        kernels::scale(rows, at, len, &BitFactor { c });
     } else {
-        modulo::scale(rows, at, len, c.value, p);
+        let g = reciprocal(p);
+        kernels::scale(rows, at, len, &ModuloFactor { c, p, g });
     }
 }
 
@@ -190,7 +185,7 @@ pub fn convolve(f: &[u8], xs: &[u8], top: usize, count: usize, p: u8) -> u8
     ensures { result ≡ (convolution p top count f.now xs.now).byte }
 {
     if p == 16 {
-        return sixteen::convolve(f, xs, top, count);
+        return kernels::convolve(f, xs, top, count, BitSum { sum: 0 });
     }
-    modulo::convolve(f, xs, top, count, p)
+    kernels::convolve(f, xs, top, count, ModuloSum { sum: 0, p })
 }

@@ -1,14 +1,17 @@
 // The fields of a prime size: sums and products modulo p.
 ghost use Rattle.std.specs.Prelude.{◌≡◌, ◌≢◌, ◌+◌, ◌*◌, ◌/◌, ◌%◌, ◌≤◌};
 ghost use Rattle.field.specs.Operations.{Listed};
-ghost use Rattle.field.specs.Kernels.{Subtracts, Scales, Convolves, Reduces, subtracted, scaled, convolution};
+ghost use Rattle.field.specs.Kernels.{Reduces};
+
+use crate::Symbol;
+use crate::kernels::{Factor, RunningSum};
 
 // A product with this number and a shift make the quotient by p.
 pub fn reciprocal(p: u8) -> u16
     requires { Listed p }
     ensures { result ≡ 65536 / p + 1 }
 {
-    (65536u32 / p as u32 + 1) as u16
+    (65536 / u32::from(p) + 1) as u16
 }
 
 // z modulo p, with no division.
@@ -16,56 +19,57 @@ pub fn reduce(z: u16, p: u8, g: u16) -> u8
     requires { Reduces p g z }
     ensures { result ≡ z % p }
 {
-    let q = (z as u32 * g as u32 / 65536) as u16;
-    (z - q * p as u16) as u8
+    let q = (u32::from(z) * u32::from(g) / 65536) as u16;
+    (z - q * u16::from(p)) as u8
 }
 
-// Takes c times the `len` symbols at `from` off those at `to`.
-pub fn subtract(rows: &mut [u8], to: usize, from: usize, len: usize, c: u8, p: u8)
-    requires subtracts { Subtracts p c to from len rows.old }
-    requires not_sixteen { p ≢ 16 }
-    ensures { rows.new ≡ subtracted p c to from len rows.old }
-{
-    let g = reciprocal(p);
-    let m = (p - c) as u16;
-    for i in 0..len {
-        let z = rows[to + i] as u16 + m * rows[from + i] as u16;
-        rows[to + i] = reduce(z, p, g);
+// The factor c, with the reciprocal g of p made once.
+#[derive(Clone, Copy)]
+pub struct ModuloFactor {
+    pub c: Symbol,
+    pub p: u8,
+    pub g: u16,
+    ghost not_sixteen: { p ≢ 16 },
+    ghost reciprocal: { g ≡ 65536 / p + 1 },
+}
+
+impl Factor for ModuloFactor {
+    ghost size = { λ f. f.p };
+
+    ghost factor = { λ f. f.c.value };
+
+    fn times(&self, x: u8) -> u8 {
+        reduce(u16::from(self.c.value) * u16::from(x), self.p, self.g)
+    }
+
+    fn take_off(&self, x: u8, y: u8) -> u8 {
+        let m = self.p - self.c.value;
+        let z = u16::from(x) + u16::from(m) * u16::from(y);
+        reduce(z, self.p, self.g)
     }
 }
 
-// Multiplies the `len` symbols at `at` by c.
-pub fn scale(rows: &mut [u8], at: usize, len: usize, c: u8, p: u8)
-    requires scales { Scales p c at len rows.old }
-    requires not_sixteen { p ≢ 16 }
-    ensures { rows.new ≡ scaled p c at len rows.old }
-{
-    let g = reciprocal(p);
-    let m = c as u16;
-    for i in 0..len {
-        let z = m * rows[at + i] as u16;
-        rows[at + i] = reduce(z, p, g);
-    }
+// A sum of whole products, divided once at the end. 65536 products of bytes stay within 32 bits.
+#[derive(Clone, Copy)]
+pub struct ModuloSum {
+    pub sum: u32,
+    pub p: u8,
+    ghost not_sixteen: { p ≢ 16 },
 }
 
-fn wide_product(a: u8, b: u8) -> u32
-    ensures { (result ≡ a * b) × (result ≤ 65025) }
-{
-    a as u32 * b as u32
-}
+impl RunningSum for ModuloSum {
+    ghost size = { λ s. s.p };
 
-// The products of f's first `count` symbols with those of xs from `top` downwards, added up, with one division. So many products of
-// bytes stay within 32 bits.
-pub fn convolve(f: &[u8], xs: &[u8], top: usize, count: usize, p: u8) -> u8
-    requires convolves { Convolves p top count f.now xs.now }
-    requires not_sixteen { p ≢ 16 }
-    ensures { result ≡ (convolution p top count f.now xs.now).byte }
-{
-    let mut sum = 0u32;
-    let mut i = 0;
-    while i < count {
-        sum += wide_product(f[i], xs[top - i]);
-        i += 1;
+    ghost number = { λ s. s.sum };
+
+    ghost terms = { λ s. (s.sum + 65024) / 65025 };
+
+    fn with_product(self, x: u8, y: u8) -> ModuloSum {
+        let sum = self.sum + u32::from(x) * u32::from(y);
+        ModuloSum { sum, p: self.p }
     }
-    (sum % p as u32) as u8
+
+    fn symbol(self) -> u8 {
+        (self.sum % u32::from(self.p)) as u8
+    }
 }

@@ -2,7 +2,9 @@
 ghost use Rattle.std.specs.Prelude.{◌≡◌, ◌*◌, ◌<◌};
 ghost use Rattle.field.specs.BitPolynomials.{bit, bit_product, bit_remainder};
 ghost use Rattle.field.specs.Operations.{Operands, times_bytes};
-ghost use Rattle.field.specs.Kernels.{Subtracts, Scales, Convolves, subtracted, scaled, convolution};
+
+use crate::Symbol;
+use crate::kernels::{Factor, RunningSum};
 
 // Four ones where a has x^i, and else four zeros.
 fn mask(a: u8, i: u8) -> u8
@@ -37,37 +39,46 @@ pub fn product(a: u8, b: u8) -> u8
     fold(whole_product(a, b))
 }
 
-// Minus is plus here.
-pub fn subtract(rows: &mut [u8], to: usize, from: usize, len: usize, c: u8)
-    requires { Subtracts 16 c to from len rows.old }
-    ensures { rows.new ≡ subtracted 16 c to from len rows.old }
-{
-    for i in 0..len {
-        let z = product(c, rows[from + i]);
-        rows[to + i] = rows[to + i] ^ z;
+#[derive(Clone, Copy)]
+pub struct BitFactor {
+    pub c: Symbol,
+}
+
+impl Factor for BitFactor {
+    ghost size = { λ _. 16 };
+
+    ghost factor = { λ f. f.c.value };
+
+    fn times(&self, x: u8) -> u8 {
+        product(self.c.value, x)
+    }
+
+    // Minus is plus here.
+    fn take_off(&self, x: u8, y: u8) -> u8 {
+        x ^ product(self.c.value, y)
     }
 }
 
-pub fn scale(rows: &mut [u8], at: usize, len: usize, c: u8)
-    requires { Scales 16 c at len rows.old }
-    ensures { rows.new ≡ scaled 16 c at len rows.old }
-{
-    for i in 0..len {
-        rows[at + i] = product(c, rows[at + i]);
-    }
+#[derive(Clone, Copy)]
+pub struct BitSum {
+    pub sum: u8,
+    ghost low: { sum < 16 },
 }
 
-// A byte of 16 or more stands for its low four bits.
-pub fn convolve(f: &[u8], xs: &[u8], top: usize, count: usize) -> u8
-    requires { Convolves 16 top count f.now xs.now }
-    ensures { result ≡ (convolution 16 top count f.now xs.now).byte }
-{
-    let mut sum = 0u8;
-    let mut i = 0;
-    while i < count {
-        let z = product(f[i] & 15, xs[top - i] & 15);
-        sum = sum ^ z;
-        i += 1;
+impl RunningSum for BitSum {
+    ghost size = { λ _. 16 };
+
+    ghost number = { λ s. s.sum };
+
+    ghost terms = { λ _. 0 };
+
+    // A byte of 16 or more stands for its low four bits.
+    fn with_product(self, x: u8, y: u8) -> BitSum {
+        let z = product(x & 15, y & 15);
+        BitSum { sum: self.sum ^ z }
     }
-    sum
+
+    fn symbol(self) -> u8 {
+        self.sum
+    }
 }

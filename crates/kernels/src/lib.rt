@@ -6,6 +6,7 @@ ghost use Rattle.field.specs.Operations.{Operand, inv_byte};
 ghost use Rattle.field.specs.Kernels.{Subtracts, subtracted};
 
 use field::Symbol;
+use field::kernels::{self, Factor};
 
 #[unsafe(no_mangle)]
 pub extern "C" fn kernel_inverse(a: u8, p: u8) -> u8
@@ -16,12 +17,38 @@ pub extern "C" fn kernel_inverse(a: u8, p: u8) -> u8
     inverse.value
 }
 
+// C gives one buffer, and both regions by their numbers.
 #[unsafe(no_mangle)]
 pub extern "C" fn kernel_subtract(rows: &mut [u8], to: usize, from: usize, len: usize, c: u8, p: u8)
     requires { Subtracts p c to from len rows.old }
     ensures { rows.new ≡ subtracted p c to from len rows.old }
 {
     field::subtract(rows, to, from, len, Symbol { value: c }, p)
+}
+
+// The factor c modulo p, with a plain remainder at each step.
+#[derive(Clone, Copy)]
+struct RemainderFactor {
+    c: u8,
+    p: u8,
+    ghost not_sixteen: { p ≢ 16 },
+}
+
+impl Factor for RemainderFactor {
+    ghost size = { λ f. f.p };
+
+    ghost factor = { λ f. f.c };
+
+    fn times(&self, x: u8) -> u8 {
+        let z = u16::from(self.c) * u16::from(x);
+        (z % u16::from(self.p)) as u8
+    }
+
+    fn take_off(&self, x: u8, y: u8) -> u8 {
+        let m = self.p - self.c;
+        let z = u16::from(x) + u16::from(m) * u16::from(y);
+        (z % u16::from(self.p)) as u8
+    }
 }
 
 #[unsafe(no_mangle)]
@@ -37,9 +64,5 @@ pub extern "C" fn kernel_remainder(
     requires not_sixteen { p ≢ 16 }
     ensures { rows.new ≡ subtracted p c to from len rows.old }
 {
-    let m = (p - c) as u16;
-    for i in 0..len {
-        let z = rows[to + i] as u16 + m * rows[from + i] as u16;
-        rows[to + i] = (z % p as u16) as u8;
-    }
+    kernels::subtract(rows, to, from, len, &RemainderFactor { c, p })
 }

@@ -28,13 +28,13 @@ unlisted : (x : ℕ) → (OneOf primes x → ⊥) → (x ≡ 16 → ⊥) → fal
 unfolding listed
 unlisted x n other = rw (ne_eqb x 16 other) (sym (among-false primes x n))
 
+pub returns-then-p-eq16 : goal.returns-then-p-eq16
+unfolding listed
+returns-then-p-eq16 c = rw c.if-p-eq16.true
+
 pub returns-in-3 : goal.returns-in-3
 unfolding listed
 returns-in-3 c = sym (or-true (eqb c.args.p 16) _ (among-true primes c.args.p c.in-3.is))
 
-pub returns-in-16 : goal.returns-in-16
-unfolding listed
-returns-in-16 c = rw c.in-16.is
-
 pub returns-in_default : goal.returns-in_default
-returns-in_default c = let h = c.in_default in search (unlisted c.args.p)
+returns-in_default c = let h = c.in_default in let other = c.if-p-eq16.false in search (unlisted c.args.p)

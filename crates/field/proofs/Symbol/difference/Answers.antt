@@ -4,9 +4,6 @@ use Rattle.field.specs.Operations.{Operands}
 use Rattle.field.proofs.OperationLaws.{plus_bits, minus-mod, minus_bits}
 use Rattle.field.proofs.Symbol.difference.Goals as goal
 
-pub sum-requires : goal.sum-requires
-sum-requires c = c.requires
-
 pub returns-then-p-eq16 : goal.returns-then-p-eq16
 returns-then-p-eq16 c =
     let o : Operands 16 c.args.self.value c.args.other.value = rw c.if-p-eq16.true at c.requires in

@@ -1,9 +1,10 @@
--- `field::Symbol::power` meets its contract. The loop's invariant: the result times the base to the power `left` is what is wanted, and the steps
--- that are left are enough for it.
+-- `field::Symbol::power` meets its contract. The loop's invariant: the result times the base to the power of the bits that are left is what is
+-- wanted.
 use mathlib.Core.Path.{◌≡◌, sym, ap, ◌∙◌}
-use Prim.Native.Nat.{ℕ, zero, suc, ◌-◌, ◌/◌, ◌%◌, ◌^◌, ◌<◌}
-use native.Mathlib.Nat.{pow-suc}
+use Prim.Native.Nat.{ℕ, ◌/◌, ◌%◌, ◌^◌, ◌<◌}
+use native.Mathlib.Nat.{div-one}
 use native.Mathlib.Omega.{arith}
+use Rattle.std.proofs.lemmas.Nat.{shr-shr}
 use Rattle.field.specs.Field.{RingLaws, pow}
 use Rattle.field.specs.Symbols.{symbol, symbols, product_of}
 use Rattle.field.specs.Operations.{Listed, times_bytes, pow_byte}
@@ -33,38 +34,31 @@ module _ {p : ℕ} (l : Listed p) where
   power-last r b a n h e =
       byte-is p _ h (sym (mul-one laws (symbol p r)) ∙ ap (product_of p (symbol p r)) (sym (pow-zero (symbols p).ring (symbol p b))) ∙ e)
 
--- an exponent of so many bits, without its last one
-shorter : (steps n : ℕ) → 0 < steps → n < 2 ^ steps → n / 2 < 2 ^ (steps - 1)
-shorter zero n h l = absurd (omega arith)
-shorter (suc steps) n h l =
-    let e : suc steps - 1 ≡ steps = omega arith in
-    rw e (omega (arith, pow-suc 2 steps))
-
-pub loop-steps-init : goal.loop-steps-init
-loop-steps-init c =
+pub loop-bit-init : goal.loop-bit-init
+loop-bit-init c =
     let o = c.requires.operand in
-    (omega (arith, o.size), o.below, c.requires.exponent_bound, power-first o.size c.args.self.value c.args.exponent)
+    (omega (arith, o.size), o.below, rw (div-one c.args.exponent) (power-first o.size c.args.self.value c.args.exponent))
 
 pub product-result-requires : goal.product-result-requires
 product-result-requires c =
     let z = c.requires.operand.size in
-    record { size = z; left = c.loop-steps.invariant.0; right = rw c.factor-factor.ensures (pow_byte-below z _ _) }
+    record { size = z; left = c.loop-bit.invariant.0; right = rw c.factor-factor.ensures (pow_byte-below z _ _) }
 
-pub loop-steps-preserved : goal.loop-steps-preserved
-loop-steps-preserved c =
-    let v = c.loop-steps in
+pub loop-bit-preserved : goal.loop-bit-preserved
+loop-bit-preserved c =
+    let v = c.loop-bit in
     let z = c.requires.operand.size in (
       rw c.product-result.ensures (times_bytes-below z _ _),
       rw c.product-base.ensures (times_bytes-below z _ _),
-      shorter v.steps v.left c.loop-steps-test.true v.invariant.2,
-      power-next z v.result.value v.base.value v.left c.factor-factor.ensures c.product-result.ensures c.product-base.ensures
-          ∙ v.invariant.3,
+      rw (← shr-shr c.args.exponent v.bit 1)
+          (power-next z v.result.value v.base.value _ c.factor-factor.ensures c.product-result.ensures c.product-base.ensures)
+          ∙ v.invariant.2,
     )
 
 pub returns : goal.returns
 returns c =
-    let v = c.loop-steps in
-    let steps : v.steps ≡ 0 = omega arith in
-    let none : v.left ≡ 0 = omega (arith, rw steps at v.invariant.2) in
+    let v = c.loop-bit in
+    let end : v.bit ≡ 5 = omega arith in
+    let none : c.args.exponent / 2 ^ 5 ≡ 0 = omega (arith, c.requires.exponent_bound) in
     power-last c.requires.operand.size v.result.value v.base.value c.args.self.value c.args.exponent v.invariant.0
-    (rw none at v.invariant.3)
+    (rw (end, none) at v.invariant.2)

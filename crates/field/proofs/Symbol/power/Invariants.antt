@@ -1,5 +1,5 @@
 use mathlib.Core.Path.{◌≡◌}
-use Prim.Native.Nat.{ℕ, ◌^◌, ◌<◌}
+use Prim.Native.Nat.{ℕ, ◌/◌, ◌^◌, ◌<◌}
 use Rattle.field.specs.Field.{pow}
 use Rattle.field.specs.Symbols.{Element, symbol, symbols, product_of}
 use Rattle.field.proofs.Symbol.power.Given as goal
@@ -8,12 +8,8 @@ use Rattle.field.proofs.Symbol.power.Given as goal
 abbrev pub times_power : (p r b n : ℕ) → Element p
 times_power p r b n = product_of p (symbol p r) (pow (symbols p).ring (symbol p b) n)
 
-abbrev pub invariant-loop-steps : goal.invariant-loop-steps
-invariant-loop-steps l =
+abbrev pub invariant-loop-bit : goal.invariant-loop-bit
+invariant-loop-bit l =
     (l.result.value < l.p)
     × (l.base.value < l.p)
-    × (l.left < 2 ^ l.steps)
-    × (times_power l.p l.result.value l.base.value l.left ≡ pow (symbols l.p).ring (symbol l.p l.initial.base.value) l.exponent)
-
-abbrev pub decreases-loop-steps : goal.decreases-loop-steps
-decreases-loop-steps l = l.steps
+    × (times_power l.p l.result.value l.base.value (l.exponent / 2 ^ l.bit) ≡ pow (symbols l.p).ring (symbol l.p l.initial.base.value) l.exponent)
