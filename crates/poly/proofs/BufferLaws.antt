@@ -1,13 +1,14 @@
 -- Bytes and the polynomials that they stand for; parts of a buffer, and what is kept outside of one.
 use mathlib.Core.Path.{◌≡◌, sym, ap, fun_ext, refl, ◌∙◌}
 use mathlib.Core.Logic.{inl, inr, ⊎_elim}
-use mathlib.Core.List.{List}
+use mathlib.Core.List.{List, [], ◌∷◌, ◌++◌}
 use Prim.Native.Nat.{ℕ, suc, ◌+◌, ◌-◌, ◌≤◌, ◌<◌}
 use native.Mathlib.Nat.{zero-add, add-zero}
 use native.Mathlib.Decide.{dec_lt}
 use native.Mathlib.Omega.{arith}
 use lib.ListN.{length, get_or, take, drop, length-take, length-drop, get_or-eq_default}
 use lib.Seq.{take_all, get_or-take, get_or-drop, ext_get_or}
+use Rattle.std.proofs.lemmas.List.{length_push, take_more, same_from_push}
 use Rattle.field.specs.Symbols.{Element, symbol, symbols, symbols_of}
 use Rattle.field.specs.Kernels.{Region}
 use Rattle.field.specs.Operations.{plus_bytes, times_bytes, Listed}
@@ -37,6 +38,16 @@ module _ (n : ℕ) (xs : List ℕ) where
 
   pub take-rest : take (length xs - n) (drop n xs) ≡ drop n xs
   take-rest = take_all (length xs - n) (drop n xs) (let l = length-drop n xs in omega arith)
+
+-- xs and then x are the first of ys
+pub taken-last : (xs ys : List ℕ) (x : ℕ) → xs ++ x ∷ [] ≡ take (length (xs ++ x ∷ [])) ys
+    → (length xs < length ys) × (xs ≡ take (length xs) ys) × (x ≡ get_or ys (length xs) 0)
+taken-last xs ys x e =
+    let inside : length xs < length ys = omega (arith, length_push xs x, ap length e, length-take (length (xs ++ x ∷ [])) ys) in
+    let same : xs ++ x ∷ [] ≡ take (length xs) ys ++ get_or ys (length xs) 0 ∷ [] =
+    e ∙ ap (λ n. take n ys) (length_push xs x) ∙ take_more ys (length xs) 0 inside in
+    let (first, last) = same_from_push xs (take (length xs) ys) x (get_or ys (length xs) 0) same in
+    (inside, first, last)
 
 -- what is outside a region is kept
 pub kept-none : (at len : ℕ) (xs : List ℕ) → Kept at len xs xs

@@ -12,6 +12,7 @@ pub mod CoprimePowers
 pub mod Interpolation
 pub mod Binomials
 pub mod TableLaws
+pub mod RefusalLaws
 pub mod Encoding
 pub mod Determined
 pub mod BufferLaws

@@ -15,7 +15,7 @@ use Rattle.field.proofs.RingLaws.{add-zero, zero-mul}
 use Rattle.field.proofs.Sums.{sum_cong, sum_split, sum-null}
 use Rattle.field.proofs.SymbolLaws.{symbols-field}
 use Rattle.poly.specs.Polynomials.{Seq, tail, mul_s}
-use Rattle.poly.specs.Buffers.{from, product_from, Kept, Product}
+use Rattle.poly.specs.Buffers.{from, product_from, Kept}
 use Rattle.poly.proofs.Series.{mul_s-zero, mul_s-suc, mul_s-sum}
 
 -- a coefficient of a product depends on no higher ones
@@ -76,10 +76,3 @@ module _ {p : ℕ} {f : List ℕ} {at len i : ℕ} {before after : List ℕ} (m 
       go : (q : ℕ) → i - 1 ≤ q → q < len → Dec (q ≡ i - 1) → get_or (set after (at + (i - 1)) v) (at + q) 0 ≡ (product_from p f before at q).byte
       go q h l (yes d) = rw (d, get_or-set_same after (at + (i - 1)) v 0 (let g = m.kept.long in omega arith), e, same)
       go q h l (no d) = get_or-set_other after (at + (i - 1)) (at + q) v 0 (λ z. omega arith) ∙ m.product q (omega arith) l
-
-  pub multiplied-all : i ≡ 0 → Product p f at len before after
-  multiplied-all z =
-      record {
-        kept = record { long = m.kept.long; same = λ q o. m.kept.same q (⊎_elim (λ a. inl (omega arith)) (λ a. inr (omega arith)) o) };
-        product = λ q l. m.product q (omega arith) l;
-      }

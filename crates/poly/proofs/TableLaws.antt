@@ -39,6 +39,11 @@ pub passed-first : (table : List Refusal) → Passed table → First table 0
 passed-first [] n = refl
 passed-first (x ∷ rest) (not, n) = inr (not, passed-first rest n)
 
+-- a line that does not apply, and what the rest of the table gives
+infixr 20 ◌⊳◌
+pub ◌⊳◌ : {Applies Given Rest : Type 0} → (Applies → ⊥) → Rest → (Applies × Given) ⊎ ((Applies → ⊥) × Rest)
+◌⊳◌ not rest = inr (not, rest)
+
 -- a table's first n refusals give a number, which is the table's; or they give 0, and then the rest of it does
 pub first-stops : (n : ℕ) (table : List Refusal) (number : ℕ) → First (take n table) number → (number ≡ 0 → ⊥) → First table number
 first-stops zero table number e other = absurd (other e)

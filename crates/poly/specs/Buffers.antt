@@ -2,7 +2,6 @@
 --   Decided answer P        the answer is true where P holds and false where it does not
 --   AllBelow p xs           every byte is below p
 --   Coefficients p a xs     p is listed, and a and every byte of xs are below p
---   Among xs count x        x is one of the first `count` bytes
 --   from p xs at            the x-polynomial whose coefficients stand from the byte `at` on
 --   Factors p f at len xs   p is listed, and every byte of f and of the len bytes from `at` on is below p; len is within what a sum of products
 --                           can hold
@@ -32,11 +31,6 @@ pub record Coefficients (p a : ℕ) (xs : List ℕ) : Type 0 where
   pub size : Listed p
   pub point : a < p
   pub below : AllBelow p xs
-
-pub record Among (xs : List ℕ) (count x : ℕ) : Type 0 where
-  pub place : ℕ
-  pub inside : place < count
-  pub is : get_or xs place 0 ≡ x
 
 abbrev pub from : (p : ℕ) → List ℕ → ℕ → Seq (symbols p).ring
 from p xs at = λ i. symbol p (get_or xs (at + i) 0)

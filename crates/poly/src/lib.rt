@@ -1,28 +1,27 @@
 // Polynomials in x in lent bytes, lowest power first, and the job encode.
 #![tactic(auto)]
 
-ghost use Rattle.std.specs.Prelude.{◌≡◌, ◌+◌, ◌≤◌, min, length};
+ghost use Rattle.std.specs.Prelude.{◌≡◌, ◌+◌, ◌≤◌, length};
 ghost use Rattle.poly.specs.Encode.{Encoded, value_at};
 ghost use Rattle.poly.specs.Buffers.{Coefficients, Factors, product_from, Product, Halves, correction_of, Places, Interpolated};
 ghost use Rattle.poly.specs.Lent.{Zeroed};
+ghost use Rattle.poly.specs.Refusals.{outcome};
 
 use field::Symbol;
 
 pub mod limits; // limits.rt: the limits of the numbers that a caller gives
 mod refusals; // refusals.rt: the tests of arguments, and encode's refusals
+mod refused; // refused.rt: why a call is refused
 
 pub use refusals::{repeated, too_large};
+pub use refused::{Refused, outcome};
 
-// The first `len` bytes become zero.
+// The first `len` bytes become zero. A function for its contract, on which three crates stand.
 pub fn clear(xs: &mut [u8], len: usize)
     requires { len ≤ length xs.old }
     ensures { Zeroed len xs.old xs.new }
 {
-    let mut i = 0;
-    while i < len {
-        xs[i] = 0;
-        i += 1;
-    }
+    xs[..len].fill(0);
 }
 
 // The value at a, by Horner's rule.
@@ -32,37 +31,21 @@ pub fn value_at(coefficients: &[u8], a: u8, p: u8) -> u8
 {
     let x = Symbol { value: a };
     let mut sum = Symbol::ZERO;
-    let mut i = coefficients.len();
-    while 0 < i {
-        i -= 1;
-        let c = Symbol {
-            value: coefficients[i],
-        };
-        sum = c.plus_product(x, sum, p);
+    for c in coefficients.iter().rev() {
+        sum = Symbol { value: *c }.plus_product(x, sum, p);
     }
     sum.value
 }
 
 // Byte s of the word becomes the message's value at point s.
-pub fn encode(p: u8, points: &[u8], message: &[u8], word: &mut [u8]) -> u8
-    ensures { Encoded p points.now message.now word.old word.new result }
+pub fn encode(p: u8, points: &[u8], message: &[u8], word: &mut [u8]) -> Result<(), Refused>
+    ensures { Encoded p points.now message.now word.old word.new (outcome result) }
 {
-    let number = refusals::refuse_encode(p, points, message, word);
-    if number != 0 {
-        return number;
+    refusals::refuse_encode(p, points, message, word)?;
+    for (s, a) in points.iter().enumerate() {
+        word[s] = value_at(message, *a, p);
     }
-    let mut s = 0;
-    while s < points.len() {
-        word[s] = value_at(message, points[s], p);
-        s += 1;
-    }
-    0
-}
-
-fn least(a: usize, b: usize) -> usize
-    ensures { result ≡ min a b }
-{
-    if a < b { a } else { b }
+    Ok(())
 }
 
 // The coefficient of x^e in f times the x-polynomial from `at` on.
@@ -70,18 +53,17 @@ fn product_at(f: &[u8], xs: &[u8], at: usize, e: usize, p: u8) -> u8
     requires { Factors p f.now at (e + 1) xs.now }
     ensures { result ≡ (product_from p f.now xs.now at e).byte }
 {
-    field::convolve(f, xs, at + e, least(f.len(), e + 1), p)
+    field::convolve(f, xs, at + e, f.len().min(e + 1), p)
 }
 
-// The x-polynomial in the `len` bytes from `at` on, times f, as far as the bytes go.
+// The x-polynomial in the `len` bytes from `at` on, times f, as far as the bytes go. A place and a length, as in field's functions: they work on
+// two regions of one buffer.
 pub fn multiply(xs: &mut [u8], at: usize, len: usize, f: &[u8], p: u8)
     requires { Factors p f.now at len xs.old }
     ensures { Product p f.now at len xs.old xs.new }
 {
     // downwards, so that what stands below is still as it was
-    let mut i = len;
-    while 0 < i {
-        i -= 1;
+    for i in (0..len).rev() {
         xs[at + i] = product_at(f, xs, at, i, p);
     }
 }
@@ -102,22 +84,18 @@ fn correction(work: &[u8], a: u8, b: u8, p: u8) -> Symbol
 }
 
 // h through the received places in the first 32 bytes and e, the product of x - point, in the next 32, one place after the other:
-// there are at most 31, so each fits.
+// there are at most 31, so each fits. Both stand in one buffer, since field::subtract takes one region of a buffer off another.
 pub fn interpolate(points: &[u8], word: &[u8], p: u8) -> [u8; 64]
     requires { Places p points.now word.now }
     ensures { Interpolated p points.now word.now (length points.now) result }
 {
     let mut work = [0u8; 64];
     work[32] = Symbol::ONE.value;
-    let n = points.len();
-    let mut s = 0;
-    while s < n {
-        let a = Symbol { value: points[s] };
-        let c = correction(&work, a.value, word[s], p);
+    for (a, b) in points.iter().zip(word) {
+        let c = correction(&work, *a, *b, p);
         field::subtract(&mut work, 0, 32, 32, c, p);
-        let factor = [a.negative(p).value, Symbol::ONE.value];
+        let factor = [Symbol { value: *a }.negative(p).value, Symbol::ONE.value];
         multiply(&mut work, 32, 32, &factor, p);
-        s += 1;
     }
     work
 }

@@ -11,7 +11,7 @@ pub const HEIGHT_MOST: u8 = 8;
 // The greatest W.
 pub const WIDTH_MOST: usize = 240;
 
-// The bytes of the largest curve.
+// The bytes of the largest curve. A constant's value calls no function, so `as` makes the wider number here.
 pub const CURVE_MOST: usize = (HEIGHT_MOST as usize + 1) * (WIDTH_MOST + 1);
 
 // The bytes of the most messages.

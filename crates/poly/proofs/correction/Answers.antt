@@ -1,8 +1,7 @@
 -- `correction` meets its contract. Assumes nothing.
 use mathlib.Core.Path.{◌≡◌, ◌∙◌}
 use native.Mathlib.Omega.{arith}
-use lib.ListN.{take, drop, length-take}
-use Rattle.field.proofs.SymbolLaws.{byte-below}
+use lib.ListN.{drop, length-take}
 use Rattle.field.proofs.OperationLaws.{minus_bytes-below, inv_byte-below}
 use Rattle.poly.specs.Encode.{value_at}
 use Rattle.poly.proofs.BufferLaws.{below-take, below-drop, take-rest}
@@ -20,24 +19,6 @@ value_at-requires-2 c =
       size = c.requires.size;
       point = c.requires.point;
       below = rw (take-rest 32 c.args.work.now) (below-drop 32 c.args.work.now c.requires.below);
-    }
-
-pub difference-requires : goal.difference-requires
-difference-requires c =
-    record {
-      size = c.requires.size;
-      left = rw c.value_at.ensures (byte-below c.requires.size
-          (value_at c.args.p (take 32 c.args.work.now) c.args.a));
-      right = c.requires.wanted;
-    }
-
-pub inverse-requires : goal.inverse-requires
-inverse-requires c =
-    let value-e : let s = c.args in c.value_at-2.result ≡ (value_at s.p (drop 32 s.work.now) s.a).byte = let s = c.args in
-    c.value_at-2.ensures ∙ rw (take-rest 32 s.work.now) in
-    record {
-      size = c.requires.size;
-      below = rw value-e (byte-below c.requires.size (value_at c.args.p (drop 32 c.args.work.now) c.args.a));
     }
 
 pub product-requires : goal.product-requires

@@ -5,26 +5,12 @@ use borrow.Author.Rules.{rules}
 use Rattle.poly.proofs.Encoding.{accepted, written-more}
 use Rattle.poly.proofs.encode.Goals as goal
 
-pub returns-then-number-ne0 : goal.returns-then-number-ne0
-returns-then-number-ne0 c =
-    record {
-      first = c.refuse_encode-number.ensures;
-      long = refl;
-      word = λ e. absurd (c.if-number-ne0.true e);
-      rest = λ s h. refl;
-    }
-
 pub loop-s-init : goal.loop-s-init
 loop-s-init c = (
   search rules,
-  accepted c.refuse_encode-number.ensures c.if-number-ne0.false,
+  accepted c.in_ok-refuse_encode.ensures refl,
   record { long = refl; word = λ q h. absurd (omega arith); rest = λ q h. refl },
 )
-
-pub value_at-requires : goal.value_at-requires
-value_at-requires c =
-    let l = c.loop-s in
-    record { size = l.invariant.1.size; point = l.invariant.1.points_below _ (search rules); below = l.invariant.1.message_below }
 
 pub loop-s-preserved : goal.loop-s-preserved
 loop-s-preserved c =
@@ -36,7 +22,7 @@ returns c =
     let l = c.loop-s in
     let w = l.invariant.2 in
     record {
-      first = rw c.if-number-ne0.false at c.refuse_encode-number.ensures;
+      first = c.in_ok-refuse_encode.ensures;
       long = w.long;
       word = λ e s h. w.word s (search rules);
       rest = λ s h. w.rest s (let g = h refl in omega arith);

@@ -1,45 +1,48 @@
--- `interpolate` meets its contract: after s places the bytes are the polynomial through them and their locator. Assumes nothing.
-use mathlib.Core.Path.{◌≡◌}
-use native.Mathlib.Omega.{arith}
-use lib.ListN.{length}
+-- `interpolate` meets its contract: after s places the bytes are the polynomial through them and their locator.
+use Rattle.std.proofs.Common.{rules, arith, ◌≡◌, ◌<◌, length, get_or}
+use Rattle.std.proofs.lemmas.List.{length_push}
+use Rattle.std.proofs.lemmas.Slice.Zip.{zip_turn, zip_end}
 use Rattle.poly.proofs.Interpolating.{interpolated-none, interpolated-next, next_halves, next-subtracts, next_factors}
-use borrow.Author.Rules.{rules}
+use Rattle.poly.proofs.interpolate.Goals.{In-Some}
 use Rattle.poly.proofs.interpolate.Goals as goal
 
-pub loop-s-init : goal.loop-s-init
-loop-s-init c = (omega arith, interpolated-none c.requires.size)
+-- the place that this turn takes
+place : (c : In-Some) → (length c.loop-a.yielded < length c.args.points.now)
+    × (c.in-Some.a.now ≡ get_or c.args.points.now (length c.loop-a.yielded) 0)
+    × (c.in-Some.b.now ≡ get_or c.args.word.now (length c.loop-a.yielded) 0)
+place c =
+    let (l, k, a, b) = zip_turn c.args.points.now c.args.word.now c.loop-a.yielded c.into_iter-a-iterator.result c.loop-a.a-iterator
+    c.next.new.self _ (search rules) (search rules) c.loop-a.yielded_by (c.in-Some.a, c.in-Some.b) c.in-Some.is c.next.ensures.steps in
+    (l, a 0, b 0)
+
+pub loop-a-init : goal.loop-a-init
+loop-a-init c = interpolated-none c.requires.size
 
 pub correction-c-requires : goal.correction-c-requires
-correction-c-requires c = next_halves c.requires c.loop-s.invariant.1 c.loop-s-test.true
+correction-c-requires c =
+    let (l, a, b) = place (goal.at.correction-c-requires c).In-Some in
+    rw (a, b) (next_halves c.requires c.loop-a.invariant l)
 
 pub subtract-requires : goal.subtract-requires
-subtract-requires c = rw c.correction-c.ensures (next-subtracts c.requires c.loop-s.invariant.1 c.loop-s-test.true)
-
-pub negative-requires : goal.negative-requires
-negative-requires c =
-    let r = c.requires in
-    record { size = r.size; below = r.points_below c.loop-s.s (search rules) }
+subtract-requires c =
+    let (l, a, b) = place (goal.at.subtract-requires c).In-Some in
+    rw (c.correction-c.ensures, a, b) (next-subtracts c.requires c.loop-a.invariant l)
 
 pub multiply-requires : goal.multiply-requires
 multiply-requires c =
-    rw (c.negative.ensures, c.subtract.ensures, c.correction-c.ensures)
-    (next_factors c.requires c.loop-s.invariant.1 c.loop-s-test.true)
+    let (l, a, b) = place (goal.at.multiply-requires c).In-Some in
+    rw (c.negative.ensures, c.subtract.ensures, c.correction-c.ensures, a, b) (next_factors c.requires c.loop-a.invariant l)
 
-pub overflow_add-s : goal.overflow_add-s
-overflow_add-s c =
-    let r = c.requires in
-    omega (arith, c.loop-s-test.true, r.count, r.size.small)
-
-pub loop-s-preserved : goal.loop-s-preserved
-loop-s-preserved c = (
-  omega (arith, c.loop-s-test.true),
-  interpolated-next c.requires c.loop-s.invariant.1 c.loop-s-test.true
-      (rw (c.negative.ensures, c.subtract.ensures, c.correction-c.ensures) at
-      c.multiply.ensures),
-)
+pub loop-a-preserved : goal.loop-a-preserved
+loop-a-preserved c =
+    let (l, a, b) = place (goal.at.loop-a-preserved c).In-Some in
+    rw (length_push c.loop-a.yielded (c.in-Some.a, c.in-Some.b))
+    (interpolated-next c.requires c.loop-a.invariant l
+    (rw (c.negative.ensures, c.subtract.ensures, c.correction-c.ensures, a, b) at c.multiply.ensures))
 
 pub returns : goal.returns
 returns c =
-    let l = c.loop-s in
-    let z : l.s ≡ length c.args.points.now = search rules in
-    rw z at l.invariant.1
+    let end = zip_end c.args.points.now c.args.word.now c.loop-a.yielded c.into_iter-a-iterator.result c.loop-a.a-iterator c.next.new.self _
+    (search rules) (search rules) c.loop-a.yielded_by c.in-None.is c.next.ensures.steps in
+    let all : length c.loop-a.yielded ≡ length c.args.points.now = omega (arith, end, c.requires.same) in
+    rw all at c.loop-a.invariant

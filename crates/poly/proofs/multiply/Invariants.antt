@@ -4,6 +4,3 @@ use Rattle.poly.proofs.multiply.Given as goal
 
 abbrev pub invariant-loop-i : goal.invariant-loop-i
 invariant-loop-i l = (l.i ≤ l.len) × Multiplied l.p l.f l.at l.len l.i l.initial.xs l.xs
-
-abbrev pub decreases-loop-i : goal.decreases-loop-i
-decreases-loop-i l = l.i

@@ -5,9 +5,6 @@ use Rattle.poly.proofs.Products.{product-convolution}
 use borrow.Author.Rules.{rules}
 use Rattle.poly.proofs.product_at.Goals as goal
 
-pub convolve-requires : goal.convolve-requires
-convolve-requires c = record { size = search rules; left = search rules; right = search rules; down = search rules; few = search rules }
-
 pub returns : goal.returns
 returns c =
     c.convolve.ensures

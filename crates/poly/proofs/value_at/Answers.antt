@@ -1,38 +1,29 @@
--- `value_at` meets its contract: the sum is the value of the coefficients from i on.
-use mathlib.Core.Path.{◌≡◌, refl, sym, ◌∙◌}
-use Prim.Native.Nat.{◌<◌, ◌-◌}
-use lib.ListN.{length}
-use borrow.Author.Rules.{rules}
-use Rattle.field.specs.Symbols.{symbols_of}
-use Rattle.field.proofs.SymbolLaws.{byte-below}
-use Rattle.poly.proofs.BufferLaws.{horner, horner-none, horner-more, horner-all}
+-- `value_at` meets its contract: the sum is the value of the coefficients that were taken.
+use Rattle.std.proofs.Common.{rules, arith, ◌≡◌, sym, ap, subst, ◌∙◌, length, take, take_all, ◌+◌, add-sub_cancel}
+use Rattle.std.proofs.lemmas.List.{length_push}
+use Rattle.field.specs.Symbols.{symbol, symbols_of}
+use Rattle.poly.proofs.BufferLaws.{taken-last, horner-none, horner-more}
 use Rattle.poly.proofs.value_at.Goals as goal
 
-pub loop-i-init : goal.loop-i-init
-loop-i-init c =
+pub loop-c-init : goal.loop-c-init
+loop-c-init c =
     let s = c.args in
-    (search rules, sym (horner-none s.p s.a (length s.coefficients.now) (symbols_of s.p s.coefficients.now)))
-
-pub plus_product-sum-requires : goal.plus_product-sum-requires
-plus_product-sum-requires c =
-    let x : c.loop-i.sum.value < c.args.p =
-    rw c.loop-i.invariant.1 (byte-below c.requires.size
-    (horner c.args.p c.args.a (length c.args.coefficients.now) (symbols_of c.args.p c.args.coefficients.now)
-    c.loop-i.i)) in record {
-      operand = record { size = c.requires.size; below = c.requires.below (c.loop-i.i - 1) (search rules) };
-      operands = record { size = c.requires.size; left = c.requires.point; right = x };
-    }
-
-pub loop-i-preserved : goal.loop-i-preserved
-loop-i-preserved c =
-    let s = c.args in (
-      search rules,
-      c.plus_product-sum.ensures ∙ rw c.loop-i.invariant.1 (horner-more s.p s.a (length s.coefficients.now)
-          (symbols_of s.p s.coefficients.now) _ c.loop-i.i (search rules) (search rules) refl),
+    let all : c.into_iter-c-iterator.result.iter.rest.now ≡ s.coefficients.now = search rules in
+    rw all (
+      sym (take_all (length s.coefficients.now) s.coefficients.now (omega arith)),
+      sym (horner-none s.p s.a (length s.coefficients.now) (symbols_of s.p s.coefficients.now)),
     )
 
-pub returns : goal.returns
-returns c =
+pub loop-c-preserved : goal.loop-c-preserved
+loop-c-preserved c =
     let s = c.args in
-    let z : c.loop-i.i ≡ 0 = search rules in
-    c.loop-i.invariant.1 ∙ rw (z, horner-all s.p s.a (length s.coefficients.now) (symbols_of s.p s.coefficients.now))
+    let xs = s.coefficients.now in
+    let left = c.next.new.self.iter.rest.now in
+    let b = c.in-Some.c.now in
+    let taken = subst (λ ys. ys ≡ take (length ys) xs) c.in-Some.ensures.steps c.loop-c.invariant.0 in
+    let (inside, first, last) = taken-last left xs b taken in
+    let next = rw (add-sub_cancel (length left) 1) at (horner-more s.p s.a (length xs) (symbols_of s.p xs) b (length left + 1) (omega arith)
+    (omega (arith, inside))) in (
+      first,
+      c.plus_product-sum.ensures ∙ rw (c.loop-c.invariant.1, ap length c.in-Some.ensures.steps, length_push left b) (next (ap (symbol s.p) last)),
+    )
