@@ -11,11 +11,10 @@ use Rattle.curves.specs.Turns.{Turn}
 use Rattle.curves.proofs.Determined.{rule_determined, end_determined}
 use Rattle.rows.specs.Bytes.{rows_bytes, rows_of, place}
 use Rattle.rows.specs.Jobs.{Goes, HasTurned}
+use Rattle.rows.specs.Jobs.{Started, Turned}
 use Rattle.rows.specs.Work.{Ready}
 use Rattle.rows.specs.Demands.{Request, shape_for, note_for, Begun, Driven, started, turned}
 use Rattle.rows.specs.declared.Note.{Note}
-use Rattle.rows.specs.declared.Started.{Started}
-use Rattle.rows.specs.declared.Turned.{Turned}
 use Rattle.rows.proofs.Placing.{place-inside, holds-own}
 use Rattle.rows.proofs.Accepted.{Accepted, start-accepted}
 use Rattle.rows.proofs.HeldRows.{rows_of-flat, holds-flat}

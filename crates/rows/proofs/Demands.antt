@@ -23,12 +23,10 @@ use Rattle.curves.proofs.Formula.{formula-is, formula_positive}
 use Rattle.curves.proofs.Passing.{Begins, begins-same, promised, run-generates, run-smallest, run_unique, begins-start, passing-curve_exists}
 use Rattle.rows.specs.Bytes.{rows_bytes, curve_bytes, rows_of}
 use Rattle.rows.specs.Jobs.{HasTurned, HasFinished, Hands, finish_table}
+use Rattle.rows.specs.Jobs.{Started, Turned, Finished}
 use Rattle.rows.specs.Work.{Ready}
 use Rattle.rows.specs.Demands.{Request, ring_for, shape_for, note_for, updates_bound, Member, Begun, Driven, started, turned, HandsCurve, Pause}
 use Rattle.rows.specs.declared.Note.{Note}
-use Rattle.rows.specs.declared.Started.{Started}
-use Rattle.rows.specs.declared.Turned.{Turned}
-use Rattle.rows.specs.declared.Finished.{Finished}
 use Rattle.rows.proofs.Placing.{holds-bytes}
 use Rattle.rows.proofs.Notes.{GoodNote, good-note, good-fine, not_bad}
 use Rattle.rows.proofs.HeldRows.{holds-row}

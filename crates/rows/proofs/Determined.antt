@@ -1,12 +1,15 @@
 -- What `HasStarted`, `HasTurned` and `HasFinished` say fixes what each job hands back and every byte lent: two outcomes for the same arguments
--- are the same.
+-- are the same. The numbers and values of a job's result tell that result, so its results are the same too.
 use mathlib.Core.Path.{◌≡◌, sym, ap₂, ◌∙◌, ap}
 use mathlib.Core.List.{List}
 use Prim.Native.Nat.{ℕ, ◌<◌}
 use native.Mathlib.Decide.{ℕ_discrete}
 use lib.ListN.{length, get_or}
 use Rattle.field.specs.Symbols.{symbols}
+use Rattle.std.specs.Prelude.{Result, Ok, Err}
 use Rattle.poly.specs.Buffers.{Places}
+use Rattle.poly.specs.declared.refused.Refused.{Refused}
+use Rattle.poly.proofs.RefusalLaws.{outcome-determines, number_of-determines, number_of-positive}
 use Rattle.poly.proofs.TableLaws.{first_determined}
 use Rattle.poly.proofs.Interpolating.{places-only}
 use Rattle.poly.proofs.BufferLaws.{untouched_unique}
@@ -19,12 +22,13 @@ use Rattle.curves.proofs.Least.{lightest_unique}
 use Rattle.rows.specs.Bytes.{shape, rows_bytes, curve_bytes}
 use Rattle.rows.specs.Jobs.{start_table, HoldsStart, HasStarted, shape_of, at_row, turn_table, Goes, HasTurned, with_note}
 use Rattle.rows.specs.Jobs.{finish_table, Hands, HasFinished}
+use Rattle.rows.specs.Jobs.{Started, Turned, Made, Finished}
+use Rattle.rows.specs.Results.{started, turned, made, finished}
+use Rattle.rows.specs.declared.Turned.{Turned as TurnedBack}
+use Rattle.rows.specs.declared.Made.{Made as MadeBack}
+use Rattle.rows.specs.declared.Finished.{Finished as FinishedBack}
 use Rattle.rows.specs.declared.Note.{Note}
 use Rattle.rows.specs.declared.Shape.{Shape}
-use Rattle.rows.specs.declared.Started.{Started}
-use Rattle.rows.specs.declared.Turned.{Turned}
-use Rattle.rows.specs.declared.Made.{Made}
-use Rattle.rows.specs.declared.Finished.{Finished}
 use Rattle.rows.proofs.Placing.{in-rows, in-curve}
 use Rattle.rows.proofs.Accepted.{Accepted, start-accepted}
 
@@ -165,3 +169,47 @@ module _ {note : Note} {rows before : List ℕ} where
             finished-same same (hands-same x y).1 (hands-height x y),
             untouched_unique (curve_bytes (shape_of note)) f.rest g.rest (λ q k. hands-bytes x y k),
           )
+
+-- the numbers and values of a result tell it
+pub started-determines : (a b : Result Note Refused) → started a ≡ started b → a ≡ b
+started-determines (Ok x) (Ok y) e = ap (λ (s : Started). Ok s.note) e
+started-determines (Ok x) (Err b) e = absurd (number_of-positive b (sym (ap (λ (s : Started). s.number) e)))
+started-determines (Err a) (Ok y) e = absurd (number_of-positive a (ap (λ (s : Started). s.number) e))
+started-determines (Err a) (Err b) e = ap Err (number_of-determines a b (ap (λ (s : Started). s.number) e))
+
+pub turned-determines : (a b : TurnedBack) → turned a ≡ turned b → a ≡ b
+turned-determines a b e =
+    ap (λ (x : Result Unit Refused). record { outcome = x; note = a.note; updates = a.updates })
+    (outcome-determines a.outcome b.outcome (ap (λ (t : Turned). t.number) e))
+    ∙ ap (λ (t : Turned). record { outcome = b.outcome; note = t.note; updates = t.updates }) e
+
+pub made-determines : (a b : MadeBack) → made a ≡ made b → a ≡ b
+made-determines a b e =
+    ap (λ (x : Result Unit Refused). record { outcome = x; updates = a.updates })
+    (outcome-determines a.outcome b.outcome (ap (λ (t : Made). t.number) e))
+    ∙ ap (λ (t : Made). record { outcome = b.outcome; updates = t.updates }) e
+
+pub finished-determines : (a b : Result FinishedBack Refused) → finished a ≡ finished b → a ≡ b
+finished-determines (Ok x) (Ok y) e = ap (λ (f : Finished). Ok (record { weight = f.weight; height = f.height })) e
+finished-determines (Ok x) (Err b) e = absurd (number_of-positive b (sym (ap (λ (f : Finished). f.number) e)))
+finished-determines (Err a) (Ok y) e = absurd (number_of-positive a (ap (λ (f : Finished). f.number) e))
+finished-determines (Err a) (Err b) e = ap Err (number_of-determines a b (ap (λ (f : Finished). f.number) e))
+
+-- so two outcomes of a job for the same arguments are the same result
+pub start_result_determined : {p : ℕ} {points word : List ℕ} {k m l : ℕ} {before after also : List ℕ} (a b : Result Note Refused)
+    → HasStarted p points word k m l before after (started a) → HasStarted p points word k m l before also (started b)
+    → (a ≡ b) × (after ≡ also)
+start_result_determined a b f g = let (e, bytes) = start_determined f g in (started-determines a b e, bytes)
+
+pub turn_result_determined : {note : Note} {allowance : ℕ} {before after also : List ℕ} (a b : TurnedBack)
+    → HasTurned note allowance before after (turned a) → HasTurned note allowance before also (turned b) → (a ≡ b) × (after ≡ also)
+turn_result_determined a b f g = let (e, bytes) = turn_determined f g in (turned-determines a b e, bytes)
+
+pub in-place_result_determined : {note : Note} {allowance : ℕ} {before after also : List ℕ} {o p : Note} (a b : MadeBack)
+    → HasTurned note allowance before after (with_note (made a) o) → HasTurned note allowance before also (with_note (made b) p)
+    → (a ≡ b) × (o ≡ p) × (after ≡ also)
+in-place_result_determined a b f g = let e = in-place_determined {m = made a} {k = made b} f g in (made-determines a b e.0, e.1, e.2)
+
+pub finish_result_determined : {note : Note} {rows before after also : List ℕ} (a b : Result FinishedBack Refused)
+    → HasFinished note rows before after (finished a) → HasFinished note rows before also (finished b) → (a ≡ b) × (after ≡ also)
+finish_result_determined a b f g = let (e, bytes) = finish_determined f g in (finished-determines a b e, bytes)

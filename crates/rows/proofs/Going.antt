@@ -17,21 +17,20 @@ use Rattle.poly.proofs.BufferLaws.{untouched-then}
 use Rattle.curves.specs.Curves.{Curve, Zero, Lead}
 use Rattle.curves.specs.Turns.{Outcome, stops, counted, Turn, finished, rises, pauses, updates, halts}
 use Rattle.curves.specs.Entry.{Sound}
-use Rattle.curves.proofs.Leads.{lead_unique, lead-within}
+use Rattle.curves.proofs.Leads.{lead-within}
 use Rattle.curves.proofs.Entry.{sound-rises, sound-below, sound-update}
 use Rattle.curves.proofs.FlatRows.{update-flat}
 use Rattle.rows.specs.Bytes.{rows_bytes, rows_of, Holds}
 use Rattle.rows.specs.Jobs.{shape_of, at_row, turn_table}
-use Rattle.rows.specs.Work.{Bytes, FoundLead, Crosses, updated_rows, Ready, Went}
+use Rattle.rows.specs.Jobs.{Turned}
+use Rattle.rows.specs.Work.{Bytes, Crosses, updated_rows, Ready, Went}
 use Rattle.rows.specs.declared.Note.{Note}
 use Rattle.rows.specs.declared.Shape.{Shape}
-use Rattle.rows.specs.declared.Turned.{Turned}
-use Rattle.rows.specs.declared.leading.Found.{Found}
 use Rattle.rows.proofs.Notes.{good-note, good-fine}
 use Rattle.rows.proofs.sound.Soundness.{bytes-below, as-left_stable}
 use Rattle.rows.proofs.Placing.{holds-bytes, holds-own, light-row}
 use Rattle.rows.proofs.HeldRows.{rows_of-flat, holds-flat}
-use Rattle.rows.proofs.leading.Finding.{found-lead}
+use Rattle.rows.proofs.leading.Finding.{lead-own}
 use Rattle.rows.proofs.update.CrossedRows.{due, rule-update}
 
 -- n updates made before
@@ -82,10 +81,6 @@ module _ {S : Shape} {start allowance : ℕ} {before xs : List ℕ} {r left : �
   Φ : FieldLaws (symbols S.p)
   Φ = symbols-field S.p g.bytes.fine.size
 
-  -- no row is zero, so a search finds its leading term
-  pub going-lead : (i : ℕ) → i ≤ S.l → (found : Found) → FoundLead R S.u (rows i) found → Lead R S.u found.weight found.power (rows i)
-  going-lead i h found f = found-lead f (g.sound.nonzero i h)
-
   pub going-rises : r ≤ S.l → {w : ℕ} → Lead R S.u w r (rows r) → Going S start allowance before xs (suc r) left
   going-rises h {w} lead =
       record {
@@ -101,13 +96,10 @@ module _ {S : Shape} {start allowance : ℕ} {before xs : List ℕ} {r left : �
   pub going-below : r ≤ S.l → {w s : ℕ} → Lead R S.u w s (rows r) → s ≢ r → s < r
   going-below h lead n = let k = lead-within lead (suc r) (g.sound.low r h (omega arith)) in omega arith
 
-  pub going_crosses : r ≤ S.l → {w s : ℕ} → Lead R S.u w s (rows r) → s ≢ r → (found : Found) → FoundLead R S.u (rows s) found
-      → Crosses S xs r w s found.weight
-  going_crosses h {w} {s} lead n found f =
+  pub going_crosses : r ≤ S.l → {w s v t : ℕ} → Lead R S.u w s (rows r) → s ≢ r → Lead R S.u v t (rows s) → Crosses S xs r w s v
+  going_crosses h {s = s} lead n other =
       let b = going-below h lead n in
       let k : s ≤ S.l = omega arith in
-      let l = going-lead s k found f in
-      let e = (lead_unique l (g.sound.own s k b).1).1 in
       record {
         bytes = g.bytes;
         current = h;
@@ -116,7 +108,7 @@ module _ {S : Shape} {start allowance : ℕ} {before xs : List ℕ} {r left : �
         light_r = light-row g.bytes h (g.sound.light r h);
         light_s = light-row g.bytes k (g.sound.light s k);
         lead_r = lead;
-        lead_s = rw e at l;
+        lead_s = lead-own other (g.sound.own s k b);
       }
 
 module _ {S : Shape} {start allowance : ℕ} {before xs : List ℕ} {r left w s v : ℕ} (g : Going S start allowance before xs r left)

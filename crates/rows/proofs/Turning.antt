@@ -21,10 +21,10 @@ use Rattle.curves.proofs.FlatRows.{turn-flat}
 use Rattle.curves.proofs.Cutting.{turn-then}
 use Rattle.rows.specs.Bytes.{rows_bytes, rows_of}
 use Rattle.rows.specs.Jobs.{shape_of, AsLeft, at_row, turn_table, Goes, HasTurned}
+use Rattle.rows.specs.Jobs.{Turned}
 use Rattle.rows.specs.Work.{Bytes, Ready}
 use Rattle.rows.specs.declared.Note.{Note}
 use Rattle.rows.specs.declared.Shape.{Shape}
-use Rattle.rows.specs.declared.Turned.{Turned}
 use Rattle.rows.proofs.Placing.{holds-bytes}
 use Rattle.rows.proofs.Notes.{good-note, not_bad}
 use Rattle.rows.proofs.HeldRows.{rows_of-flat, holds-flat}

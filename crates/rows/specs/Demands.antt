@@ -14,11 +14,9 @@ use Rattle.curves.specs.Curves.{Curve, HasHeight, LeadsAt, Span, Passing}
 use Rattle.curves.specs.Start.{formula}
 use Rattle.rows.specs.Bytes.{shape, curve_bytes, rows_of, HoldsCurve}
 use Rattle.rows.specs.Jobs.{TheCurve, HasStarted, HasTurned, HasFinished}
+use Rattle.rows.specs.Jobs.{Started, Turned, Finished}
 use Rattle.rows.specs.declared.Note.{Note}
 use Rattle.rows.specs.declared.Shape.{Shape}
-use Rattle.rows.specs.declared.Started.{Started}
-use Rattle.rows.specs.declared.Turned.{Turned}
-use Rattle.rows.specs.declared.Finished.{Finished}
 
 pub record Request : Type 0 where
   pub p : ℕ

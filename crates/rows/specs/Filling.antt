@@ -1,5 +1,5 @@
 -- What the functions that fill the rows ask and give.
---   copied from to len xs     the `len` bytes at `from` brought to `to`, which is further on; Copies  what this asks
+--   copied from to len xs     the `len` bytes at `from` brought to `to`
 --   Power                     the x-polynomial in a region, times a power of f
 --   slots_at p base slot xs   the curve whose slots of `slot` bytes follow each other from `base` on
 --   raised                    such a curve times y - h; RaisedSlot  its slot j is in place, Raised  its first slots are
@@ -22,10 +22,6 @@ use Rattle.rows.specs.declared.Shape.{Shape}
 
 unfoldable pub copied : ℕ → ℕ → ℕ → List ℕ → List ℕ
 copied from to len xs = sets xs to (tabulate len (λ i. get_or xs (from + i) 0))
-
-pub record Copies (from to len : ℕ) (xs : List ℕ) : Type 0 where
-  pub apart : from + len ≤ to
-  pub room : to + len ≤ length xs
 
 pub record Power (p : ℕ) (f : List ℕ) (count at len : ℕ) (before after : List ℕ) : Type 0 where
   pub kept : Kept at len before after

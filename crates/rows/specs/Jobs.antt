@@ -4,6 +4,7 @@
 --   BadNote note           10: 1, 2, 4 or 5 would apply to the note, or r is outside 1 to l + 1
 --   shape_of note          the numbers by which the bytes of its rows are read
 --   AsLeft S r xs          the rows are as a turn leaves them; 11 if they are not
+--   Started, Turned, Made, Finished  what start, a turn, a turn in place and finish hand back: the number and the values beside it
 --   at_row note r          the note with r as its current row; no_note  all zeros
 --   request_table          the refusals 1 to 7 of a request, with which start and list begin
 --   start_table, turn_table, finish_table  the refusals of each job, in order
@@ -24,10 +25,6 @@ use Rattle.curves.specs.Finish.{Lightest, monic}
 use Rattle.rows.specs.Bytes.{shape, curve_bytes, rows_bytes, rows_of, Holds, HoldsCurve}
 use Rattle.rows.specs.declared.Note.{Note}
 use Rattle.rows.specs.declared.Shape.{Shape}
-use Rattle.rows.specs.declared.Started.{Started}
-use Rattle.rows.specs.declared.Turned.{Turned}
-use Rattle.rows.specs.declared.Made.{Made}
-use Rattle.rows.specs.declared.Finished.{Finished}
 
 abbrev pub TheCurve : (p : ℕ) → List ℕ → List ℕ → ℕ → ℕ → ℕ → Curve (symbols p).ring → Type 0
 TheCurve p points word k m l =
@@ -52,6 +49,26 @@ at_row note r = record { p = note.p; n = note.n; k = note.k; m = note.m; l = not
 
 abbrev pub no_note : Note
 no_note = record { p = 0; n = 0; k = 0; m = 0; l = 0; r = 0 }
+
+-- what the jobs hand back; Results says which number and values stand for each case
+
+pub record Started : Type 0 where
+  pub number : ℕ
+  pub note : Note
+
+pub record Turned : Type 0 where
+  pub number : ℕ
+  pub note : Note
+  pub updates : ℕ
+
+pub record Made : Type 0 where
+  pub number : ℕ
+  pub updates : ℕ
+
+pub record Finished : Type 0 where
+  pub number : ℕ
+  pub weight : ℕ
+  pub height : ℕ
 
 -- start
 

@@ -3,7 +3,7 @@
 --   Placed S i j e      the coefficient of x^e y^j of row i has a place
 --   Bytes S xs          room for the rows, with every coefficient below p
 --   LightRow S xs i     no term of row i weighs more than the width
---   SizeTo, Heavier     what the two parts of a search for the leading term say
+--   DegreeTo, Heavier   what the two parts of a search for the leading term say; IsDegree  what the first says of a degree
 --   FoundLead           what a search for the leading term says
 --   ZeroBetween xs a b  the bytes from a up to, not including, b are zero
 --   SoundRow            what Sound says of row i
@@ -14,11 +14,9 @@
 --   Ready note xs       the note and the rows of an accepted turn; Went  what it leaves
 --   Whole S xs          rows of which each leads at its own power of y
 --   HandsOver           what handing over a row asks: where it leads, and room for the curve
---   copied_from src at len xs  the first `len` bytes become those of src from `at` on
-use Rattle.std.specs.Prelude.{◌≡◌, true, false, ◌⊎◌, List, ℕ, zero, suc, ◌+◌, ◌-◌, ◌*◌, ◌≤◌, ◌<◌, max, leb, length, get_or}
-use Rattle.std.proofs.lemmas.List.Edits.{sets}
+use Rattle.std.specs.Prelude.{◌≡◌, ◌⊎◌, Option, None, Some, MatchOption, List}
+use Rattle.std.specs.Prelude.{ℕ, zero, suc, ◌+◌, ◌-◌, ◌*◌, ◌≤◌, ◌<◌, max, leb, length, get_or}
 use Rattle.field.specs.Field.{Ring}
-use Rattle.field.specs.Lists.{tabulate}
 use Rattle.field.specs.Symbols.{Element, select, symbols}
 use Rattle.field.specs.Operations.{minus_bytes, times_bytes, Listed}
 use Rattle.field.specs.Kernels.{Region}
@@ -29,10 +27,10 @@ use Rattle.curves.specs.Turns.{ratio, update}
 use Rattle.curves.specs.Entry.{Sound}
 use Rattle.rows.specs.Bytes.{slot, rows_bytes, curve_bytes, rows_of, place}
 use Rattle.rows.specs.Jobs.{BadNote, shape_of, Goes}
+use Rattle.rows.specs.Jobs.{Turned}
 use Rattle.rows.specs.declared.Shape.{Shape}
 use Rattle.rows.specs.declared.Note.{Note}
-use Rattle.rows.specs.declared.Turned.{Turned}
-use Rattle.rows.specs.declared.leading.Found.{Found}
+use Rattle.rows.specs.declared.leading.LeadingTerm.{LeadingTerm}
 
 pub record Fine (S : Shape) : Type 0 where
   pub size : Listed S.p
@@ -53,26 +51,26 @@ pub record Bytes (S : Shape) (xs : List ℕ) : Type 0 where
   pub room : rows_bytes S ≤ length xs
   pub below : (q : ℕ) → q < rows_bytes S → get_or xs q 0 < S.p
 
--- the coefficients to x^top at `at` have `size` as one more than their degree
-pub record SizeTo (xs : List ℕ) (at top size : ℕ) : Type 0 where
-  pub within : size ≤ suc top
-  pub above : (i : ℕ) → size ≤ i → i ≤ top → get_or xs (at + i) 0 ≡ 0
-  pub last : 0 < size → get_or xs (at + (size - 1)) 0 ≡ 0 → ⊥
+-- of the coefficients to x^top at `at` that of x^d is the last one that is not zero
+pub record IsDegree (xs : List ℕ) (at top d : ℕ) : Type 0 where
+  pub within : d ≤ top
+  pub above : (i : ℕ) → d < i → i ≤ top → get_or xs (at + i) 0 ≡ 0
+  pub nonzero : get_or xs (at + d) 0 ≡ 0 → ⊥
+
+abbrev pub DegreeTo : List ℕ → ℕ → ℕ → Option ℕ → Type 0
+DegreeTo xs at top found = MatchOption found ((i : ℕ) → i ≤ top → get_or xs (at + i) 0 ≡ 0) (IsDegree xs at top)
 
 abbrev pub LightRow : Shape → List ℕ → ℕ → Type 0
 LightRow S xs i = (j e : ℕ) → j ≤ S.l → e ≤ S.width → S.width < e + S.u * j → get_or xs (place S i j e) 0 ≡ 0
 
--- the heavier of what was found and a term of `size` as its degree and one more, at y^j, which weighs `lift` by itself; of equal weights
--- what was found
-pub data Heavier (found : Found) (size lift j : ℕ) : Found → Type 0 where
-  absent : size ≡ 0 → Heavier found size lift j found
-  lighter : 0 < size → found.some ≡ true → size - 1 + lift ≤ found.weight → Heavier found size lift j found
-  heavier : 0 < size → (found.some ≡ true → found.weight < size - 1 + lift)
-      → Heavier found size lift j (record { some = true; weight = size - 1 + lift; power = j })
+-- the heavier of a term and what was found; of equal weights what was found
+pub data Heavier (term : LeadingTerm) : Option LeadingTerm → LeadingTerm → Type 0 where
+  first : Heavier term None term
+  stays : {lead : LeadingTerm} → term.weight ≤ lead.weight → Heavier term (Some lead) lead
+  taken : {lead : LeadingTerm} → lead.weight < term.weight → Heavier term (Some lead) term
 
-pub record FoundLead (R : Ring) (u : ℕ) (Q : Curve R) (found : Found) : Type 0 where
-  pub none : found.some ≡ false → Zero R Q
-  pub lead : found.some ≡ true → Lead R u found.weight found.power Q
+abbrev pub FoundLead : (R : Ring) → ℕ → Curve R → Option LeadingTerm → Type 0
+FoundLead R u Q found = MatchOption found (Zero R Q) (λ term. Lead R u term.weight term.power Q)
 
 abbrev pub ZeroBetween : List ℕ → ℕ → ℕ → Type 0
 ZeroBetween xs a b = (q : ℕ) → a ≤ q → q < b → get_or xs q 0 ≡ 0
@@ -149,6 +147,3 @@ pub record HandsOver (S : Shape) (xs : List ℕ) (row weight : ℕ) (curve : Lis
   pub lead : Lead (symbols S.p).ring S.u weight row (rows_of S xs row)
   pub light : weight ≤ S.width
   pub room : curve_bytes S ≤ length curve
-
-unfoldable pub copied_from : List ℕ → ℕ → ℕ → List ℕ → List ℕ
-copied_from src at len xs = sets xs 0 (tabulate len (λ i. get_or src (at + i) 0))

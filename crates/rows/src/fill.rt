@@ -1,34 +1,21 @@
-// The rows that a start fills.
+// The rows that a start fills. A slot is a place and a length, since what is taken off it stands in the same buffer.
 ghost use Rattle.std.specs.Prelude.{◌≡◌, suc, ◌*◌};
 ghost use Rattle.poly.specs.Buffers.{Factors};
 ghost use Rattle.poly.specs.Lent.{Untouched};
 ghost use Rattle.rows.specs.Bytes.{rows_bytes};
-ghost use Rattle.rows.specs.Filling.{copied, Copies, Power, RaisedSlot, Raised, FillsLow, FilledLow, RaisesRow, raised_row, Fills};
+ghost use Rattle.rows.specs.Filling.{Power, RaisedSlot, Raised, FillsLow, FilledLow, RaisesRow, raised_row, Fills};
 ghost use Rattle.rows.specs.Filling.{Filled};
 
 use crate::Shape;
 use field::Symbol;
-
-fn copy(rows: &mut [u8], from: usize, to: usize, len: usize)
-    requires { Copies from to len rows.old }
-    ensures { rows.new ≡ copied from to len rows.old }
-{
-    let mut i = 0;
-    while i < len {
-        rows[to + i] = rows[from + i];
-        i += 1;
-    }
-}
 
 // The x-polynomial in the `len` bytes from `at` on, times f, `count` times.
 fn times_power(rows: &mut [u8], at: usize, len: usize, f: &[u8], count: usize, p: u8)
     requires { Factors p f.now at len rows.old }
     ensures { Power p f.now count at len rows.old rows.new }
 {
-    let mut i = 0;
-    while i < count {
+    for _ in 0..count {
         poly::multiply(rows, at, len, f, p);
-        i += 1;
     }
 }
 
@@ -51,9 +38,7 @@ fn times_y_less_h(rows: &mut [u8], base: usize, slot: usize, slots: usize, h: &[
     requires { Factors p h.now base (slots * slot) rows.old }
     ensures { Raised p h.now base slot slots rows.old rows.new }
 {
-    let mut j = slots;
-    while 0 < j {
-        j -= 1;
+    for j in (0..slots).rev() {
         raise_slot(rows, base, slot, j, h, p);
     }
 }
@@ -63,14 +48,12 @@ fn fill_low(rows: &mut [u8], shape: Shape, i: usize, m: usize, h: &[u8], e: &[u8
     requires { FillsLow shape i m h.now e.now rows.old }
     ensures { FilledLow shape i m h.now e.now rows.old rows.new }
 {
-    let slot = crate::layout::slot(shape);
-    let base = i * crate::layout::curve_bytes(shape);
+    let slot = shape.slot();
+    let base = i * shape.curve_bytes();
     rows[base] = Symbol::ONE.value;
     times_power(rows, base, slot, e, m - i, shape.p);
-    let mut q = 0;
-    while q < i {
+    for q in 0..i {
         times_y_less_h(rows, base, slot, q + 2, h, shape.p);
-        q += 1;
     }
 }
 
@@ -79,9 +62,9 @@ fn raise_row(rows: &mut [u8], shape: Shape, i: usize)
     requires { RaisesRow shape i rows.old }
     ensures { rows.new ≡ raised_row shape i rows.old }
 {
-    let slot = crate::layout::slot(shape);
-    let curve = crate::layout::curve_bytes(shape);
-    copy(rows, (i - 1) * curve, i * curve + slot, curve - slot);
+    let slot = shape.slot();
+    let curve = shape.curve_bytes();
+    rows.copy_within((i - 1) * curve..i * curve - slot, i * curve + slot);
 }
 
 // Rows 0 to m by their powers, each row above as y times the one before it. `work` has h in its first 32 bytes and e in the next.
@@ -91,14 +74,12 @@ pub fn fill(rows: &mut [u8], shape: Shape, m: usize, work: &[u8])
 {
     let h = &work[..32];
     let e = &work[32..];
-    poly::clear(rows, crate::layout::rows_bytes(shape));
-    let mut i = 0;
-    while i <= shape.l {
+    poly::clear(rows, shape.rows_bytes());
+    for i in 0..=shape.l {
         if i <= m {
             fill_low(rows, shape, i, m, h, e);
         } else {
             raise_row(rows, shape, i);
         }
-        i += 1;
     }
 }

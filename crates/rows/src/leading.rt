@@ -1,72 +1,63 @@
 // Leading terms.
 ghost use Rattle.std.specs.Prelude.{◌+◌, ◌<◌, ◌≤◌, length};
-ghost use Rattle.field.specs.Symbols.{symbols};
-ghost use Rattle.rows.specs.Bytes.{rows_of};
-ghost use Rattle.rows.specs.Work.{Bytes, LightRow, SizeTo, Heavier, FoundLead};
+ghost use Rattle.curves.specs.Curves.{Zero, Lead};
+ghost use Rattle.rows.specs.Work.{DegreeTo, Heavier, FoundLead};
 
-use crate::Shape;
+use crate::view::Rows;
 
+// A leading term, by its weight and its power of y.
 #[derive(Clone, Copy)]
-pub struct Found {
-    pub some: bool,
+pub struct LeadingTerm {
     pub weight: usize,
     pub power: usize,
 }
 
-// One more than the degree of the x-polynomial whose coefficients to x^top stand at `at`; 0 where they are all zero.
-pub fn size_to(rows: &[u8], at: usize, top: usize) -> usize
+// The degree of the x-polynomial whose coefficients to x^top stand at `at`, unless they are all zero.
+pub fn degree_to(rows: &[u8], at: usize, top: usize) -> Option<usize>
     requires { at + top < length rows.now }
-    ensures { SizeTo rows.now at top result }
+    ensures { DegreeTo rows.now at top result }
 {
-    let mut d = top + 1;
-    while 0 < d {
-        if rows[at + d - 1] != 0 {
-            return d;
-        }
-        d -= 1;
-    }
-    0
+    rows[at..=at + top].iter().rposition(|x| *x != 0)
 }
 
-// The leading term of row i, whose terms above the width are zero. Powers of y go down, so that of equal weights the larger power stays.
-pub fn row_lead(rows: &[u8], shape: Shape, i: usize) -> Found
-    requires { Bytes shape rows.now × ((i ≤ shape.l) × LightRow shape rows.now i) }
-    ensures { FoundLead (symbols shape.p).ring shape.u (rows_of shape rows.now i) result }
+// What was found, or the term where that weighs more.
+fn heavier(found: Option<LeadingTerm>, term: LeadingTerm) -> LeadingTerm
+    ensures { Heavier term found result }
 {
-    let base = i * crate::layout::curve_bytes(shape);
-    let slot = crate::layout::slot(shape);
-    let mut found = Found {
-        some: false,
-        weight: 0,
-        power: 0,
-    };
-    let mut j = shape.l + 1;
-    while 0 < j {
-        j -= 1;
-        let lift = shape.u * j;
-        let size = size_to(rows, base + j * slot, shape.width - lift);
-        found = heavier(found, size, lift, j);
+    match found {
+        Some(lead) if term.weight <= lead.weight => lead,
+        _ => term,
     }
-    found
 }
 
-// What was found, or the term x^(size-1) y^j where that weighs more; y^j weighs `lift`.
-fn heavier(found: Found, size: usize, lift: usize, j: usize) -> Found
-    requires { size + lift < 65536 }
-    ensures { Heavier found size lift j result }
-{
-    if size == 0 {
-        return found;
-    }
-    let weight = size - 1 + lift;
-    if found.some {
-        if weight <= found.weight {
-            return found;
+impl Rows<'_> {
+    ghost use Rattle.rows.specs.View.{ring_of, row_of, Light};
+
+    // The leading term of row i, whose terms above the width are zero. Powers of y go down, so that of equal weights the larger power stays.
+    pub fn row_lead(&self, i: usize) -> Option<LeadingTerm>
+        requires { (i ≤ self.now.shape.l) × Light self.now i }
+        ensures { FoundLead (ring_of self.now) self.now.shape.u (row_of self.now i) result }
+    {
+        let shape = self.shape;
+        let base = i * shape.curve_bytes();
+        let slot = shape.slot();
+        let mut found = None;
+        for power in (0..=shape.l).rev() {
+            let lift = shape.u * power;
+            if let Some(degree) = degree_to(self.bytes, base + power * slot, shape.width - lift) {
+                let weight = degree + lift;
+                found = Some(heavier(found, LeadingTerm { weight, power }));
+            }
         }
+        found
     }
-    Found {
-        some: true,
-        weight,
-        power: j,
+
+    // The leading term of row i, which is not zero.
+    pub fn lead_of(&self, i: usize) -> LeadingTerm
+        requires row { (i ≤ self.now.shape.l) × Light self.now i }
+        requires nonzero { Zero (ring_of self.now) (row_of self.now i) → ⊥ }
+        ensures { Lead (ring_of self.now) self.now.shape.u result.weight result.power (row_of self.now i) }
+    {
+        self.row_lead(i).unwrap()
     }
 }

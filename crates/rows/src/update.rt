@@ -1,5 +1,5 @@
-// One update: row r leads at weight w and power s of y, row s at weight v and the same power.
-ghost use Rattle.std.specs.Prelude.{◌≡◌, ◌+◌, ◌-◌, ◌<◌, length};
+// One update, of row r by row s.
+ghost use Rattle.std.specs.Prelude.{◌≡◌, ◌+◌, ◌<◌, length};
 ghost use Rattle.field.specs.Symbols.{symbols};
 ghost use Rattle.poly.specs.Buffers.{Decided};
 ghost use Rattle.poly.specs.Lent.{Untouched};
@@ -10,29 +10,88 @@ ghost use Rattle.rows.specs.Work.{Crosses, leads_ratio, updated_rows, delayed_by
 use crate::Shape;
 use field::Symbol;
 
-// The leading coefficient of row r over that of row s.
-fn ratio(rows: &[u8], shape: Shape, r: usize, w: usize, s: usize, v: usize) -> Symbol
-    requires { Crosses shape rows.now r w s v }
-    ensures { result.value ≡ (leads_ratio shape rows.now r w s v).byte }
-{
-    let p = shape.p;
-    let lift = shape.u * s;
-    let at = crate::layout::place(shape, r, s, w - lift);
-    let a = Symbol { value: rows[at] };
-    let under = crate::layout::place(shape, s, s, v - lift);
-    let b = Symbol { value: rows[under] };
-    a.product(b.inverse(p), p)
+// Row r leads at weight w and power s of y, row s at weight v and the same power.
+#[derive(Clone, Copy)]
+pub struct Crossing {
+    pub r: usize,
+    pub w: usize,
+    pub s: usize,
+    pub v: usize,
+}
+
+// An update writes the rows, so their bytes are lent beside the shape, and no view holds them; Crosses says that they hold rows.
+impl Crossing {
+    // The leading coefficient of row r over that of row s.
+    fn ratio(self, rows: &[u8], shape: Shape) -> Symbol
+        requires { Crosses shape rows.now self.r self.w self.s self.v }
+        ensures { result.value ≡ (leads_ratio shape rows.now self.r self.w self.s self.v).byte }
+    {
+        let Crossing { r, w, s, v } = self;
+        let p = shape.p;
+        let lift = shape.u * s;
+        let at = shape.place(r, s, w - lift);
+        let a = Symbol { value: rows[at] };
+        let under = shape.place(s, s, v - lift);
+        let b = Symbol { value: rows[under] };
+        a.product(b.inverse(p), p)
+    }
+
+    // Whether the update would make row r zero.
+    pub fn vanishes(self, rows: &[u8], shape: Shape) -> bool
+        requires { Crosses shape rows.now self.r self.w self.s self.v }
+        ensures { Decided result (Zero (symbols shape.p).ring (updated_rows shape rows.now self.r self.w self.s self.v self.r)) }
+    {
+        let Crossing { r, w, s, v } = self;
+        let c = self.ratio(rows, shape);
+        let up = v.saturating_sub(w);
+        let down = w.saturating_sub(v);
+        let curve = shape.curve_bytes();
+        let slot = shape.slot();
+        for j in 0..=shape.l {
+            let at = j * slot;
+            if !slot_vanishes(rows, shape, r * curve + at, up, s * curve + at, down, c) {
+                return false;
+            }
+        }
+        true
+    }
+
+    // x^d moves what stands in a slot no further than its end, as no term of the result weighs more than the width: so a row is updated
+    // in one run over its bytes.
+    pub fn update(self, rows: &mut [u8], shape: Shape)
+        requires { Crosses shape rows.old self.r self.w self.s self.v }
+        ensures { Holds shape rows.new (updated_rows shape rows.old self.r self.w self.s self.v)
+            × Untouched (rows_bytes shape) rows.old rows.new }
+    {
+        let Crossing { r, w, s, v } = self;
+        let p = shape.p;
+        let len = shape.curve_bytes();
+        let c = self.ratio(rows, shape);
+        let row = r * len;
+        let other = s * len;
+        if v <= w {
+            let d = w - v;
+            field::subtract(rows, row + d, other, len - d, c, p);
+        } else {
+            let d = v - w;
+            swap(rows, row, other, len);
+            field::scale(rows, row, len, c.negative(p), p);
+            field::subtract(rows, row + d, other, len - d, Symbol::ONE.negative(p), p);
+        }
+    }
 }
 
 // The coefficient of x^e in x^d times the x-polynomial at `at`.
-fn delayed(rows: &[u8], at: usize, d: usize, e: usize) -> u8
+fn delayed(rows: &[u8], at: usize, d: usize, e: usize) -> Symbol
     requires { at + e < length rows.now }
-    ensures { result ≡ delayed_byte rows.now at d e }
+    ensures { result.value ≡ delayed_byte rows.now at d e }
 {
     if e < d {
-        return Symbol::ZERO.value;
+        return Symbol::ZERO;
     }
-    rows[at + (e - d)]
+    Symbol {
+        value: rows[at + (e - d)],
+    }
 }
 
 // Whether x^up times the slot at a, less c x^down times the slot at b, is zero.
@@ -49,47 +108,12 @@ fn slot_vanishes(
     ensures { Decided result (SlotVanishes shape c.value a up b down rows.now) }
 {
     let p = shape.p;
-    let mut e = 0;
-    while e <= shape.width {
-        let x = Symbol {
-            value: delayed(rows, a, up, e),
-        };
-        let y = Symbol {
-            value: delayed(rows, b, down, e),
-        };
-        let d = x.difference(c.product(y, p), p);
-        if d.value != 0 {
+    for e in 0..=shape.width {
+        let x = delayed(rows, a, up, e);
+        let y = delayed(rows, b, down, e);
+        if x.difference(c.product(y, p), p) != Symbol::ZERO {
             return false;
         }
-        e += 1;
-    }
-    true
-}
-
-// What a is more than b, or 0.
-fn beyond(a: usize, b: usize) -> usize
-    ensures { result ≡ a - b }
-{
-    if b < a { a - b } else { 0 }
-}
-
-// Whether the update would make row r zero.
-pub fn vanishes(rows: &[u8], shape: Shape, r: usize, w: usize, s: usize, v: usize) -> bool
-    requires { Crosses shape rows.now r w s v }
-    ensures { Decided result (Zero (symbols shape.p).ring (updated_rows shape rows.now r w s v r)) }
-{
-    let c = ratio(rows, shape, r, w, s, v);
-    let up = beyond(v, w);
-    let down = beyond(w, v);
-    let curve = crate::layout::curve_bytes(shape);
-    let slot = crate::layout::slot(shape);
-    let mut j = 0;
-    while j <= shape.l {
-        let at = j * slot;
-        if !slot_vanishes(rows, shape, r * curve + at, up, s * curve + at, down, c) {
-            return false;
-        }
-        j += 1;
     }
     true
 }
@@ -99,34 +123,7 @@ fn swap(rows: &mut [u8], a: usize, b: usize, len: usize)
     requires { Exchanges a b len rows.old }
     ensures { Exchanged a b len rows.old rows.new }
 {
-    let mut i = 0;
-    while i < len {
-        let x = rows[a + i];
-        rows[a + i] = rows[b + i];
-        rows[b + i] = x;
-        i += 1;
-    }
-}
-
-// x^d moves what stands in a slot no further than its end, as no term of the result weighs more than the width: so a row is updated
-// in one run over its bytes.
-pub fn update(rows: &mut [u8], shape: Shape, r: usize, w: usize, s: usize, v: usize)
-    requires { Crosses shape rows.old r w s v }
-    ensures { Holds shape rows.new (updated_rows shape rows.old r w s v)
-        × Untouched (rows_bytes shape) rows.old rows.new }
-{
-    let p = shape.p;
-    let len = crate::layout::curve_bytes(shape);
-    let c = ratio(rows, shape, r, w, s, v);
-    let row = r * len;
-    let other = s * len;
-    if v <= w {
-        let d = w - v;
-        field::subtract(rows, row + d, other, len - d, c, p);
-    } else {
-        let d = v - w;
-        swap(rows, row, other, len);
-        field::scale(rows, row, len, c.negative(p), p);
-        field::subtract(rows, row + d, other, len - d, Symbol::ONE.negative(p), p);
-    }
+    let low = a.min(b);
+    let (front, back) = rows.split_at_mut(a.max(b));
+    front[low..low + len].swap_with_slice(&mut back[..len]);
 }

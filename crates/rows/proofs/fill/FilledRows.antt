@@ -1,5 +1,5 @@
 -- The rows one after the other as they are filled, those above m as y times the row before.
-use mathlib.Core.Path.{◌≡◌, refl, sym, ap, ◌∙◌}
+use mathlib.Core.Path.{◌≡◌, sym, ap, ◌∙◌}
 use mathlib.Core.Logic.{inl, inr, ⊎_elim}
 use mathlib.Core.List.{List}
 use Prim.Native.Nat.{ℕ, zero, suc, ◌+◌, ◌-◌, ◌*◌, ◌≤◌, ◌<◌}
@@ -8,33 +8,28 @@ use native.Mathlib.Numerals.{add-one}
 use native.Mathlib.Decide.{ℕ_discrete}
 use native.Mathlib.Omega.{arith}
 use lib.ListN.{length, get_or, take, drop}
+use Rattle.std.specs.List.{CopiedTo, SameBelow, SameFrom}
 use Rattle.field.specs.Symbols.{symbols, symbols_of}
 use Rattle.field.specs.Operations.{Listed}
 use Rattle.field.proofs.SymbolLaws.{symbols-field, zero-byte}
 use Rattle.poly.specs.Polynomials.{Series, zero_s, cons_s}
 use Rattle.poly.specs.Buffers.{AllBelow, Kept}
-use Rattle.poly.specs.Lent.{Untouched, Zeroed}
+use Rattle.poly.specs.Lent.{Untouched}
 use Rattle.poly.proofs.BufferLaws.{below-take, below-drop}
 use Rattle.curves.specs.Curves.{Curve}
 use Rattle.curves.specs.Start.{start_row}
 use Rattle.curves.proofs.RaisedRows.{start_row-high}
 use Rattle.rows.specs.Bytes.{slot, curve_bytes, rows_bytes, place, Holds}
-use Rattle.rows.specs.Filling.{Copies, HoldsRow, FilledLow, RaisesRow, raised_row, Fills}
+use Rattle.rows.specs.Filling.{HoldsRow, FilledLow, RaisesRow, raised_row, Fills}
 use Rattle.rows.specs.declared.Shape.{Shape}
 use Rattle.rows.proofs.Placing.{slot-end, row-end, rows-apart, slot-inside}
 use Rattle.rows.proofs.fill.LowRows.{slot-fits}
-use Rattle.rows.proofs.fill.Copies.{length-copied, copied-inside, copied-outside}
+use Rattle.rows.proofs.fill.Copies.{copied-is, length-copied, copied-inside, copied-outside}
 
 -- y times the row before
 module _ {S : Shape} {i : ℕ} {xs : List ℕ} (a : RaisesRow S i xs) where
   pub copy-ends : i * curve_bytes S + curve_bytes S ≤ length xs
   copy-ends = let w = row-end S a.inside in let r = a.room in omega arith
-
-  pub copy-before : (i - 1) * curve_bytes S + curve_bytes S ≤ i * curve_bytes S
-  copy-before = let n = a.some in rows-apart S {i = i - 1} {k = i} (omega arith)
-
-  pub row_copies : Copies ((i - 1) * curve_bytes S) (i * curve_bytes S + slot S) (curve_bytes S - slot S) xs
-  row_copies = let w = slot-fits S in record { apart = omega (arith, copy-before); room = omega (arith, copy-ends) }
 
   abbrev from : ℕ
   from = (i - 1) * curve_bytes S
@@ -44,6 +39,20 @@ module _ {S : Shape} {i : ℕ} {xs : List ℕ} (a : RaisesRow S i xs) where
 
   abbrev len : ℕ
   len = curve_bytes S - slot S
+
+  row-room : to + len ≤ length xs
+  row-room = let w = slot-fits S in omega (arith, copy-ends)
+
+  -- the bytes that the library's copy leaves
+  pub row-copied : {ys : List ℕ} → length ys ≡ length xs → CopiedTo xs ys from to (i * curve_bytes S - slot S - from)
+      → SameBelow xs ys to → SameFrom xs ys (to + (i * curve_bytes S - slot S - from)) → ys ≡ raised_row S i xs
+  row-copied long inside below above =
+      let n = a.some in
+      let f : suc (i - 1) ≡ i = omega arith in
+      let m = suc-mul (i - 1) (curve_bytes S) in
+      let g = ap (λ (x : ℕ). x * curve_bytes S) f in
+      let e : i * curve_bytes S - slot S - from ≡ len = omega arith in
+      copied-is from to xs len row-room long (rw e at inside) below (rw e at above)
 
   pub raised-kept : Kept (i * curve_bytes S) (curve_bytes S) xs (raised_row S i xs)
   raised-kept =
@@ -70,7 +79,7 @@ module _ {S : Shape} {i : ℕ} {xs : List ℕ} (a : RaisesRow S i xs) where
       let z : place S i (suc j) d ≡ to + (j * slot S + d) = omega arith in
       let y : from + (j * slot S + d) ≡ place S (i - 1) j d = omega arith in
       ap (λ (q : ℕ). get_or (raised_row S i xs) q 0) z
-      ∙ copied-inside from to xs len (j * slot S + d) row_copies.room (omega arith)
+      ∙ copied-inside from to xs len (j * slot S + d) row-room (omega arith)
       ∙ ap (λ (q : ℕ). get_or xs q 0) y
       ∙ f j d (omega arith) k
 
@@ -81,12 +90,6 @@ pub record RowsFilled (S : Shape) (rows : ℕ → Curve (symbols S.p).ring) (i :
   pub rest : Untouched (rows_bytes S) before after
 
 module _ {S : Shape} {rows : ℕ → Curve (symbols S.p).ring} where
-  pub filled-none : {xs ys : List ℕ} → Zeroed (rows_bytes S) xs ys → RowsFilled S rows 0 xs ys
-  filled-none z = record { done = λ q k. absurd (omega arith); bare = λ q k g. z.zeros q g; rest = z.rest }
-
-  pub filled-begins : {i : ℕ} {xs ys : List ℕ} → RowsFilled S rows i xs ys → RowsFilled S rows i ys ys
-  filled-begins f = record { done = f.done; bare = f.bare; rest = record { long = refl; same = λ q k. refl } }
-
   -- row i changes, and is in place then
   module _ {i : ℕ} {xs ys : List ℕ} (inside : i ≤ S.l) (f : RowsFilled S rows i xs ys) where
     -- it is zero so far

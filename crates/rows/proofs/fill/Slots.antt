@@ -1,5 +1,5 @@
 -- Products in lent bytes: an x-polynomial times a power, and a curve times y - h, one slot after the other.
-use mathlib.Core.Path.{◌≡◌, refl, sym, ap, ◌∙◌}
+use mathlib.Core.Path.{◌≡◌, sym, ap, ◌∙◌}
 use mathlib.Core.Logic.{inl, inr}
 use mathlib.Core.List.{List}
 use Prim.Native.Nat.{ℕ, suc, ◌+◌, ◌-◌, ◌*◌, ◌≤◌, ◌<◌}
@@ -24,7 +24,7 @@ use Rattle.poly.proofs.Series.{series}
 use Rattle.poly.proofs.Products.{product-low}
 use Rattle.poly.proofs.BufferLaws.{kept-none, kept-then, kept-wider, region-symbols}
 use Rattle.curves.proofs.RaisedRows.{raised-zero, raised-suc, raised-low}
-use Rattle.rows.specs.Filling.{Power, slots_at, raised, RaisedSlot, Raised}
+use Rattle.rows.specs.Filling.{Power, slots_at, raised, RaisedSlot}
 use Rattle.rows.proofs.Placing.{block-end}
 
 -- the x-polynomial in a region times -f
@@ -55,9 +55,6 @@ module _ {p : ℕ} (l : Listed p) where
         }
 
     module _ {i : ℕ} {ys : List ℕ} (b : Power p f i at len xs ys) where
-      pub power_factors : Factors p f at len ys
-      power_factors = record { size = l; factor = a.factor; short = a.short; region = region-symbols (power i) l a.region b.kept b.power }
-
       pub power-more : {zs : List ℕ} → Product p f at len ys zs → Power p f (i + 1) at len xs zs
       power-more c = record { kept = kept-then b.kept c.kept; power = λ e h. c.product e h ∙ ap (λ (x : Element p). x.byte) (more e h) }
         where
@@ -161,35 +158,9 @@ pub record Raising (p : ℕ) (h : List ℕ) (base slot slots j : ℕ) (before af
   pub is : (i e : ℕ) → j ≤ i → i < slots → e < slot → get_or after (base + i * slot + e) 0 ≡ (raised p h base slot before i e).byte
 
 module _ {p : ℕ} {h : List ℕ} {base slot slots : ℕ} where
-  pub raising-none : (xs : List ℕ) → Raising p h base slot slots slots xs xs
-  raising-none xs = record { kept = kept-none base (slots * slot) xs; same = λ q k. refl; is = λ i e k m. absurd (omega arith) }
-
-  pub raising-all : {xs ys : List ℕ} → Raising p h base slot slots 0 xs ys → Raised p h base slot slots xs ys
-  raising-all r = record { kept = r.kept; is = λ j e. r.is j e (omega arith) }
-
   module _ (l : Listed p) {j : ℕ} (some : 0 < j) (most : j ≤ slots) {xs ys : List ℕ} (r : Raising p h base slot slots j xs ys) where
     top : (j - 1) * slot + slot ≤ slots * slot
     top = block-end slot (omega arith)
-
-    pub raising_factors : Factors p h base (slots * slot) xs → Factors p h base (suc (j - 1) * slot) ys
-    raising_factors a =
-        let m = suc-mul (j - 1) slot in
-        let w = a.region.within in
-        let n = block-end slot {i = j - 1} {k = j} (omega arith) in
-        let g = r.kept.long in
-        record {
-          size = a.size;
-          factor = a.factor;
-          short = omega (arith, a.short, top);
-          region =
-              record {
-                within = omega (arith, top);
-                below = λ i k. rw (r.same (base + i) (omega arith)) (a.region.below i (omega (
-                  arith,
-                  top,
-                )));
-              };
-        }
 
     pub raising-more : {zs : List ℕ} → RaisedSlot p h base slot (j - 1) ys zs → Raising p h base slot slots (j - 1) xs zs
     raising-more {zs} b =

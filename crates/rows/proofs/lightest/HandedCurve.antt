@@ -1,79 +1,70 @@
 -- What finish hands over: a row brought to the curve's bytes, those bytes times the inverse of the leading coefficient, and the row's height.
-use mathlib.Core.Path.{◌≡◌, sym, ap, ◌∙◌}
+use mathlib.Core.Path.{◌≡◌, refl, sym, ap, ◌∙◌}
 use mathlib.Core.Logic.{inl, inr}
-use mathlib.Core.List.{List}
-use Prim.Native.Nat.{ℕ, zero, suc, ◌+◌, ◌-◌, ◌*◌, ◌/◌, ◌%◌, ◌≤◌, ◌<◌}
+use mathlib.Core.List.{List, ◌++◌}
+use Prim.Native.Nat.{ℕ, suc, ◌+◌, ◌-◌, ◌*◌, ◌/◌, ◌%◌, ◌≤◌, ◌<◌}
 use native.Mathlib.Nat.{zero-add, mod-lt, div-add-mod', div-lt_iff_lt-mul}
-use native.Mathlib.Decide.{dec_le, dec_lt}
+use native.Mathlib.Decide.{dec_le}
 use native.Mathlib.Omega.{arith}
-use lib.ListN.{length, get_or, set}
-use lib.Seq.{length-sets}
+use lib.ListN.{length, get_or, drop}
+use Rattle.std.specs.Prelude.{Option, Some, None, IsSome}
+use Rattle.std.specs.List.{between}
+use Rattle.std.proofs.lemmas.List.{get_or_append_left, get_or-append_right, get_or-drop, length-append, length-drop}
+use Rattle.std.proofs.lemmas.List.Edits.{length-between, get_or-between}
 use Rattle.field.specs.Symbols.{Element, symbol, symbols}
 use Rattle.field.specs.Operations.{times_bytes, inv_byte}
 use Rattle.field.specs.Kernels.{Region, scaled}
-use Rattle.field.proofs.Lists.{sets-tabulate-zero, sets-tabulate-suc, sets-tabulate-inside, sets-tabulate-outside}
 use Rattle.field.proofs.SymbolLaws.{symbols-field}
 use Rattle.field.proofs.OperationLaws.{symbol-inv_byte}
 use Rattle.field.proofs.KernelLaws.{length-scaled, scaled-inside, scaled-outside}
-use Rattle.poly.specs.Limits.{rows_most}
 use Rattle.poly.specs.Lent.{Untouched}
 use Rattle.curves.specs.Finish.{monic}
 use Rattle.curves.specs.Curves.{HasHeight}
 use Rattle.curves.proofs.Least.{monic-at}
-use Rattle.rows.specs.Bytes.{slot, curve_bytes, rows_bytes, rows_of, place, HoldsCurve}
-use Rattle.rows.specs.Work.{Bytes, SizeTo, Whole, HandsOver, copied_from}
+use Rattle.rows.specs.Bytes.{slot, curve_bytes, rows_of, place, HoldsCurve}
+use Rattle.rows.specs.Work.{DegreeTo, IsDegree, Whole, HandsOver}
 use Rattle.rows.specs.declared.Shape.{Shape}
-use Rattle.rows.proofs.Placing.{block-end, row-end, slot-inside, place-inside, rows-small, rows_of-at, rows_of_boxed, place-below, rows_of-zero}
+use Rattle.rows.proofs.Placing.{block-end, row-end, slot-inside, rows_of-at, rows_of_boxed, place-below, rows_of-zero}
 use Rattle.rows.proofs.Placing.{rows_of-null}
-
-module _ (src : List ℕ) (at : ℕ) (xs : List ℕ) where
-  pub copied-from-none : copied_from src at zero xs ≡ xs
-  unfolding copied_from
-  copied-from-none = sets-tabulate-zero xs 0 _
-
-  pub copied-from-more : (len : ℕ) → copied_from src at (suc len) xs ≡ set (copied_from src at len xs) len (get_or src (at + len) 0)
-  unfolding copied_from
-  copied-from-more len = sets-tabulate-suc xs 0 len _ ∙ rw (zero-add len)
-
-  pub copied-from-length : (len : ℕ) → length (copied_from src at len xs) ≡ length xs
-  unfolding copied_from
-  copied-from-length len = simp length-sets
-
-  pub copied-from-inside : (len i : ℕ) → len ≤ length xs → i < len → get_or (copied_from src at len xs) i 0 ≡ get_or src (at + i) 0
-  unfolding copied_from
-  copied-from-inside len i h k = rw (zero-add i) at (sets-tabulate-inside xs 0 len (λ i. get_or src (at + i) 0) i 0 (omega arith) k)
-
-  pub copied-from-outside : (len i : ℕ) → len ≤ i → get_or (copied_from src at len xs) i 0 ≡ get_or xs i 0
-  unfolding copied_from
-  copied-from-outside len i h = sets-tabulate-outside xs 0 len _ i 0 (inr (omega arith))
-
--- a row's bytes lie within the rows
-pub row-within : {S : Shape} {xs : List ℕ} → Bytes S xs → {i len : ℕ} → i ≤ S.l → len ≡ curve_bytes S
-    → (i * len + len ≤ length xs) × (i * len + len ≤ rows_most)
-row-within {S} b h e = rw e (omega (arith, row-end S h, b.room), omega (arith, row-end S h, rows-small b.fine))
 
 -- a row's bytes times the inverse of its leading coefficient
 module _ {S : Shape} {xs : List ℕ} {row weight : ℕ} {curve : List ℕ} (h : HandsOver S xs row weight curve) where
   abbrev lead : ℕ
   lead = get_or xs (place S row row (weight - S.u * row)) 0
 
+  abbrev bytes : List ℕ
+  bytes = between (row * curve_bytes S) (row * curve_bytes S + curve_bytes S) xs
+
   abbrev copy : List ℕ
-  copy = copied_from xs (row * curve_bytes S) (curve_bytes S) curve
+  copy = bytes ++ drop (curve_bytes S) curve
+
+  bytes-length : length bytes ≡ curve_bytes S
+  bytes-length =
+      let r = h.bytes.room in
+      length-between xs (row * curve_bytes S) (row * curve_bytes S + curve_bytes S) (omega (arith, row-end S h.inside)) ∙ omega arith
 
   lead-short : weight - S.u * row ≤ S.width
   lead-short = omega (arith, h.light)
-
-  pub lead-inside : place S row row (weight - S.u * row) < rows_bytes S
-  lead-inside = place-inside S h.inside h.inside lead-short
 
   pub lead-below : {at : ℕ} → at ≡ place S row row (weight - S.u * row) → get_or xs at 0 < S.p
   lead-below e = rw e (place-below h.bytes h.inside h.inside lead-short)
 
   copy-at : {q : ℕ} → q < curve_bytes S → get_or copy q 0 ≡ get_or xs (row * curve_bytes S + q) 0
-  copy-at {q} k = copied-from-inside xs (row * curve_bytes S) curve (curve_bytes S) q h.room k
+  copy-at {q} k =
+      get_or_append_left bytes (drop (curve_bytes S) curve) 0 q (omega (arith, bytes-length))
+      ∙ get_or-between xs (row * curve_bytes S) (row * curve_bytes S + curve_bytes S) q 0 (omega arith)
+
+  copy-past : (q : ℕ) → curve_bytes S ≤ q → get_or copy q 0 ≡ get_or curve q 0
+  copy-past q k =
+      let e : curve_bytes S + (q - curve_bytes S) ≡ q = omega arith in
+      get_or-append_right bytes (drop (curve_bytes S) curve) (curve_bytes S) q 0 bytes-length k
+      ∙ get_or-drop (curve_bytes S) curve (q - curve_bytes S) 0
+      ∙ ap (λ (t : ℕ). get_or curve t 0) e
 
   copy-length : length copy ≡ length curve
-  copy-length = copied-from-length xs (row * curve_bytes S) curve (curve_bytes S)
+  copy-length =
+      let r = h.room in
+      length-append bytes (drop (curve_bytes S) curve) ∙ omega (arith, bytes-length, length-drop (curve_bytes S) curve)
 
   copy-region : Region S.p 0 (curve_bytes S) copy
   copy-region =
@@ -102,11 +93,11 @@ module _ {S : Shape} {xs : List ℕ} {row weight : ℕ} {curve : List ℕ} (h : 
       record {
         long = length-scaled S.p (inv_byte S.p lead) 0 copy (curve_bytes S) ∙ copy-length;
         same = λ q k. scaled-outside S.p (inv_byte S.p lead) 0 copy (curve_bytes S) q (inr (omega arith))
-            ∙ copied-from-outside xs (row * curve_bytes S) curve (curve_bytes S) q k;
+            ∙ copy-past q k;
       }
 
   -- the same, said as the code goes
-  module _ {len : ℕ} {ys : List ℕ} (le : len ≡ curve_bytes S) (ye : ys ≡ copied_from xs (row * len) len curve) where
+  module _ {len : ℕ} {ys : List ℕ} (le : len ≡ curve_bytes S) (ye : ys ≡ between (row * len) (row * len + len) xs ++ drop len curve) where
     pub hand-region : Region S.p 0 len ys
     hand-region = rw (ye, le) copy-region
 
@@ -116,37 +107,33 @@ module _ {S : Shape} {xs : List ℕ} {row weight : ℕ} {curve : List ℕ} (h : 
     handed ae ce ze = rw (ze, ce, ae, ye, le) (monic-bytes, monic-rest)
 
 -- the slot of a row's last nonzero byte
-module _ {S : Shape} {xs : List ℕ} {row size : ℕ} (w : Whole S xs) (h : row ≤ S.l)
-    (z : SizeTo xs (row * curve_bytes S) (curve_bytes S - 1) size) where
-  row-past : (t e : ℕ) → size ≤ t * slot S + e → rows_of S xs row t e ≡ symbol S.p 0
-  row-past t e past =
+module _ {S : Shape} {xs : List ℕ} {row : ℕ} (w : Whole S xs) (h : row ≤ S.l) where
+  row-zero : (t e : ℕ) → (t * slot S + e ≤ curve_bytes S - 1 → get_or xs (row * curve_bytes S + (t * slot S + e)) 0 ≡ 0)
+      → rows_of S xs row t e ≡ symbol S.p 0
+  row-zero t e zeros =
       rows_of-null S xs h t e
       (λ g k.
       let a : place S row t e ≡ row * curve_bytes S + (t * slot S + e) = omega arith in
-      rw a (z.above (t * slot S + e) past (omega (arith, slot-inside S g k))))
+      rw a (zeros (omega (arith, slot-inside S g k))))
 
-  pub row-some : 0 < size
-  row-some = go (dec_lt 0 size)
-    where
-      go : Dec (0 < size) → 0 < size
-      go (yes l) = l
-      go (no l) = absurd (w.sound.nonzero row h (λ t e. row-past t e (omega arith)))
+  pub row-some : (found : Option ℕ) → DegreeTo xs (row * curve_bytes S) (curve_bytes S - 1) found → IsSome found
+  row-some None zeros = absurd (w.sound.nonzero row h (λ t e. row-zero t e (zeros (t * slot S + e))))
+  row-some (Some d) z = refl
 
-  pub row-height : HasHeight (symbols S.p).ring (rows_of S xs row) ((size - 1) / slot S)
-  row-height =
-      let s = row-some in
+  pub row-height : {d : ℕ} → IsDegree xs (row * curve_bytes S) (curve_bytes S - 1) d → HasHeight (symbols S.p).ring (rows_of S xs row) (d / slot S)
+  row-height {d} z =
       let b = z.within in
-      let j = (size - 1) / slot S in
-      let e = (size - 1) % slot S in
+      let j = d / slot S in
+      let e = d % slot S in
       let some : 0 < slot S = omega arith in
-      let end : size - 1 < suc S.l * slot S = omega (arith, slot-inside S {j = 0} {e = 0} (omega arith) (omega arith)) in
+      let end : d < suc S.l * slot S = omega (arith, slot-inside S {j = 0} {e = 0} (omega arith) (omega arith)) in
       let low = (div-lt_iff_lt-mul some).1 end in
-      let short = mod-lt (size - 1) some in
-      let is = div-add-mod' (size - 1) (slot S) in
-      let it : place S row j e ≡ row * curve_bytes S + (size - 1) = omega arith in
+      let short = mod-lt d some in
+      let is = div-add-mod' d (slot S) in
+      let it : place S row j e ≡ row * curve_bytes S + d = omega arith in
       record {
-        above = λ t i k. row-past t i (omega (arith, block-end (slot S) k));
-        some = (e, λ n. z.last s (rw it at (rows_of-zero w.bytes h (omega arith) (omega arith) n)));
+        above = λ t i k. row-zero t i (z.above (t * slot S + i) (omega (arith, block-end (slot S) k)));
+        some = (e, λ n. z.nonzero (rw it at (rows_of-zero w.bytes h (omega arith) (omega arith) n)));
       }
 
 pub height-inside : (S : Shape) (xs : List ℕ) (row : ℕ) {j : ℕ} → HasHeight (symbols S.p).ring (rows_of S xs row) j → j ≤ S.l

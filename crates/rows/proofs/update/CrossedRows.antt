@@ -5,7 +5,7 @@ use mathlib.Core.Logic.{◌≢◌}
 use mathlib.Core.List.{List}
 use Prim.Native.Nat.{ℕ, ◌-◌, ◌*◌, ◌≤◌, ◌<◌, max}
 use native.Mathlib.Omega.{arith}
-use lib.ListN.{get_or}
+use lib.ListN.{length, get_or}
 use Rattle.field.specs.Field.{Ring, Field, FieldLaws}
 use Rattle.field.specs.Symbols.{Element, symbols}
 use Rattle.field.specs.Operations.{times_bytes, inv_byte}
@@ -18,7 +18,7 @@ use Rattle.curves.proofs.Updates.{Swapped, update_r, update-s, update-other, upd
 use Rattle.rows.specs.Bytes.{place, rows_of}
 use Rattle.rows.specs.Work.{Placed, Crosses, leads_ratio, updated_rows}
 use Rattle.rows.specs.declared.Shape.{Shape}
-use Rattle.rows.proofs.Placing.{rows_of-at, light-curve}
+use Rattle.rows.proofs.Placing.{place-inside, place-below, rows_of-at, light-curve}
 
 module _ {S : Shape} {xs : List ℕ} {r w s v : ℕ} (x : Crosses S xs r w s v) where
   abbrev F : Field
@@ -73,6 +73,18 @@ module _ {S : Shape} {xs : List ℕ} {r w s v : ℕ} (x : Crosses S xs r w s v) 
 
   pub place-s : Placed S s s (v - S.u * s)
   place-s = let a = crosses-v in record { fine = x.bytes.fine; row = x.other; power = x.other; degree = omega arith }
+
+  pub inside_r : place S r s (w - S.u * s) < length xs
+  inside_r = omega (arith, place-inside S place_r.row place_r.power place_r.degree, x.bytes.room)
+
+  pub inside-s : place S s s (v - S.u * s) < length xs
+  inside-s = omega (arith, place-inside S place-s.row place-s.power place-s.degree, x.bytes.room)
+
+  pub below_r : get_or xs (place S r s (w - S.u * s)) 0 < S.p
+  below_r = place-below x.bytes place_r.row place_r.power place_r.degree
+
+  pub below-s : get_or xs (place S s s (v - S.u * s)) 0 < S.p
+  below-s = place-below x.bytes place-s.row place-s.power place-s.degree
 
   pub ratio-byte : times_bytes S.p (get_or xs (place S r s (w - S.u * s)) 0) (inv_byte S.p (get_or xs (place S s s (v - S.u * s)) 0))
       ≡ c.byte

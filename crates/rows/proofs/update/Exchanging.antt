@@ -1,65 +1,146 @@
--- Two runs of bytes change places, byte by byte.
-use mathlib.Core.Path.{◌≡◌, refl, ◌∙◌}
-use mathlib.Core.Logic.{◌≢◌, inl, inr, ⊎_elim}
-use mathlib.Core.List.{List}
-use Prim.Native.Nat.{ℕ, ◌+◌, ◌<◌}
-use native.Mathlib.Decide.{ℕ_discrete}
+-- Two runs of bytes change places: the lower run ends where the upper begins, or before.
+use mathlib.Core.Path.{◌≡◌, ◌∙◌}
+use mathlib.Core.Logic.{◌⊎◌, inl, inr, ⊎_elim}
+use mathlib.Core.List.{List, ◌++◌}
+use Prim.Native.Nat.{ℕ, ◌+◌, ◌-◌, ◌≤◌, ◌<◌, min, max}
+use native.Mathlib.Decide.{dec_le}
 use native.Mathlib.Omega.{arith}
-use lib.ListN.{get_or, set, length-set}
-use lib.Seq.{get_or-set_same, get_or-set_other}
+use lib.ListN.{length, get_or, take, drop}
+use Rattle.std.proofs.lemmas.List.{length-append, length-take-le, length-drop, get_or-take, get_or-drop, get_or_append_left, get_or-append_right}
 use Rattle.rows.specs.Work.{Exchanges, Exchanged}
 
-pub exchanged-none : (a b : ℕ) (xs : List ℕ) → Exchanged a b 0 xs xs
-exchanged-none a b xs = record {
-  long = refl;
-  first = λ k h. absurd (omega arith);
-  second = λ k h. absurd (omega arith);
-  rest = λ q g h. refl;
-}
+module _ (xs : List ℕ) (low high len : ℕ) (h : low + len ≤ high) (k : high + len ≤ length xs) where
+  -- the bytes from the lower run to the upper, and those from the upper on
+  abbrev front : List ℕ
+  front = take high xs
 
-module _ {a b len i : ℕ} {xs ys : List ℕ} (e : Exchanges a b len xs) (h : i < len) (x : Exchanged a b i xs ys) where
-  -- the next two bytes are as they were
-  next-a : get_or ys (a + i) 0 ≡ get_or xs (a + i) 0
-  next-a = x.rest (a + i) (inr (omega arith)) (⊎_elim (λ l. inl (omega arith)) (λ l. inr (omega arith)) e.apart)
+  abbrev back : List ℕ
+  back = drop high xs
 
-  next-b : get_or ys (b + i) 0 ≡ get_or xs (b + i) 0
-  next-b = x.rest (b + i) (⊎_elim (λ l. inr (omega arith)) (λ l. inl (omega arith)) e.apart) (inr (omega arith))
+  abbrev left : List ℕ
+  left = take low front ++ (take len back ++ drop len (drop low front))
 
-  apart : (k : ℕ) → k < len → (a + k ≡ b + i → ⊥) × (b + k ≡ a + i → ⊥)
-  apart k l = ⊎_elim (λ m. (λ z. omega arith, λ z. omega arith)) (λ m. (λ z. omega arith, λ z. omega arith)) e.apart
+  abbrev right : List ℕ
+  right = take len (drop low front) ++ drop len back
 
-  abbrev one : List ℕ
-  one = set ys (a + i) (get_or ys (b + i) 0)
+  front-long : length front ≡ high
+  front-long = length-take-le high xs (omega arith)
 
-  abbrev both : List ℕ
-  both = set one (b + i) (get_or ys (a + i) 0)
+  back-long : length back ≡ length xs - high
+  back-long = length-drop high xs
 
-  other : (q : ℕ) → q ≢ a + i → q ≢ b + i → get_or both q 0 ≡ get_or ys q 0
-  other q n m = get_or-set_other one (b + i) q (get_or ys (a + i) 0) 0 m ∙ get_or-set_other ys (a + i) q (get_or ys (b + i) 0) 0 n
+  low-long : length (take low front) ≡ low
+  low-long = length-take-le low front (omega (arith, front-long))
 
-  pub exchanged-more : Exchanged a b (i + 1) xs both
-  exchanged-more =
-      let l = x.long in
-      record {
-        long = length-set one (b + i) _ ∙ length-set ys (a + i) _ ∙ l;
-        first = λ k m. first k m (ℕ_discrete k i);
-        second = λ k m. second k m (ℕ_discrete k i);
-        rest = λ q g m. other q (⊎_elim (λ y z. omega arith) (λ y z. omega arith) g) (⊎_elim (λ y z. omega arith) (λ y z. omega arith) m)
-            ∙ x.rest q (⊎_elim (λ y. inl y) (λ y. inr (omega arith)) g) (⊎_elim (λ y. inl y) (λ y. inr (omega arith)) m);
-      }
-    where
-      first : (k : ℕ) → k < i + 1 → Dec (k ≡ i) → get_or both (a + k) 0 ≡ get_or xs (b + k) 0
-      first k m (yes q) =
-          let l = x.long in
-          let s = e.first in
-          rw q (get_or-set_other one (b + i) (a + i) (get_or ys (a + i) 0) 0 (apart i h).0
-          ∙ get_or-set_same ys (a + i) (get_or ys (b + i) 0) 0 (omega arith) ∙ next-b)
-      first k m (no q) = other (a + k) (λ z. omega arith) (apart k (omega arith)).0 ∙ x.first k (omega arith)
+  first-long : length (take len back) ≡ len
+  first-long = length-take-le len back (omega (arith, back-long))
 
-      second : (k : ℕ) → k < i + 1 → Dec (k ≡ i) → get_or both (b + k) 0 ≡ get_or xs (a + k) 0
-      second k m (yes q) =
-          let l = x.long in
-          let s = e.second in
-          let t = length-set ys (a + i) (get_or ys (b + i) 0) in
-          rw q (get_or-set_same one (b + i) (get_or ys (a + i) 0) 0 (omega arith) ∙ next-a)
-      second k m (no q) = other (b + k) (apart k (omega arith)).1 (λ z. omega arith) ∙ x.second k (omega arith)
+  second-long : length (take len (drop low front)) ≡ len
+  second-long = length-take-le len (drop low front) (omega (arith, length-drop low front, front-long))
+
+  left-long : length left ≡ high
+  left-long = omega (
+    arith,
+    length-append (take low front) (take len back ++ drop len (drop low front)),
+    length-append (take len back) (drop len (drop low front)),
+    length-drop len (drop low front),
+    length-drop low front,
+    front-long,
+    low-long,
+    first-long,
+  )
+
+  exchanged-long : length (left ++ right) ≡ length xs
+  exchanged-long = omega (
+    arith,
+    length-append left right,
+    length-append (take len (drop low front)) (drop len back),
+    length-drop len back,
+    back-long,
+    left-long,
+    second-long,
+  )
+
+  at-left : (q : ℕ) → q < high → get_or (left ++ right) q 0 ≡ get_or left q 0
+  at-left q l = get_or_append_left left right 0 q (omega (arith, left-long))
+
+  at-right : (i : ℕ) → get_or (left ++ right) (high + i) 0 ≡ get_or right i 0
+  at-right i =
+      let e : high + i - high ≡ i = omega arith in
+      rw e at (get_or-append_right left right high (high + i) 0 left-long (omega arith))
+
+  at-front : (q : ℕ) → q < high → get_or front q 0 ≡ get_or xs q 0
+  at-front q l = get_or-take high xs q 0 l
+
+  before : (q : ℕ) → q < low → get_or (left ++ right) q 0 ≡ get_or xs q 0
+  before q l =
+      at-left q (omega arith)
+      ∙ get_or_append_left (take low front) (take len back ++ drop len (drop low front)) 0 q (omega (arith, low-long))
+      ∙ get_or-take low front q 0 l
+      ∙ at-front q (omega arith)
+
+  past-low : (i : ℕ) → low + i < high → get_or (left ++ right) (low + i) 0 ≡ get_or (take len back ++ drop len (drop low front)) i 0
+  past-low i l =
+      let e : low + i - low ≡ i = omega arith in
+      at-left (low + i) l
+      ∙ rw e at (get_or-append_right (take low front) (take len back ++ drop len (drop low front)) low (low + i) 0 low-long (omega arith))
+
+  first : (i : ℕ) → i < len → get_or (left ++ right) (low + i) 0 ≡ get_or xs (high + i) 0
+  first i l =
+      past-low i (omega arith)
+      ∙ get_or_append_left (take len back) (drop len (drop low front)) 0 i (omega (arith, first-long))
+      ∙ get_or-take len back i 0 l
+      ∙ get_or-drop high xs i 0
+
+  between : (i : ℕ) → low + (len + i) < high → get_or (left ++ right) (low + (len + i)) 0 ≡ get_or xs (low + (len + i)) 0
+  between i l =
+      let e : len + i - len ≡ i = omega arith in
+      past-low (len + i) l
+      ∙ rw e at (get_or-append_right (take len back) (drop len (drop low front)) len (len + i) 0 first-long (omega arith))
+      ∙ get_or-drop len (drop low front) i 0
+      ∙ get_or-drop low front (len + i) 0
+      ∙ at-front (low + (len + i)) l
+
+  second : (i : ℕ) → i < len → get_or (left ++ right) (high + i) 0 ≡ get_or xs (low + i) 0
+  second i l =
+      at-right i
+      ∙ get_or_append_left (take len (drop low front)) (drop len back) 0 i (omega (arith, second-long))
+      ∙ get_or-take len (drop low front) i 0 l
+      ∙ get_or-drop low front i 0
+      ∙ at-front (low + i) (omega arith)
+
+  after : (i : ℕ) → get_or (left ++ right) (high + (len + i)) 0 ≡ get_or xs (high + (len + i)) 0
+  after i =
+      let e : len + i - len ≡ i = omega arith in
+      at-right (len + i)
+      ∙ rw e at (get_or-append_right (take len (drop low front)) (drop len back) len (len + i) 0 second-long (omega arith))
+      ∙ get_or-drop len back i 0
+      ∙ get_or-drop high xs (len + i) 0
+
+  rest : (q : ℕ) → (q < low) ⊎ (low + len ≤ q) → (q < high) ⊎ (high + len ≤ q) → get_or (left ++ right) q 0 ≡ get_or xs q 0
+  rest q (inl g) m = before q g
+  rest q (inr g) (inl m) = let e : low + (len + (q - (low + len))) ≡ q = omega arith in rw e at (between (q - (low + len)) (omega arith))
+  rest q (inr g) (inr m) = let e : high + (len + (q - (high + len))) ≡ q = omega arith in rw e at (after (q - (high + len)))
+
+  exchanged-up : Exchanged low high len xs (left ++ right)
+  exchanged-up = record { long = exchanged-long; first = first; second = second; rest = rest }
+
+  exchanged-down : Exchanged high low len xs (left ++ right)
+  exchanged-down = record { long = exchanged-long; first = second; second = first; rest = λ q g m. rest q m g }
+
+-- what the split, the exchange of the two runs and the joined parts leave
+pub exchanged : {a b len low high n : ℕ} {xs front back self other : List ℕ} → Exchanges a b len xs → low ≡ min a b → high ≡ max a b → n ≡ len
+    → front ≡ take high xs → back ≡ drop high xs → self ≡ take len back → other ≡ take n (drop low front)
+    → Exchanged a b len xs ((take low front ++ (self ++ drop n (drop low front))) ++ (other ++ drop len back))
+exchanged {a} {b} {len} {low} {high} {n} {xs} e low-is high-is n-is fs bs ss os = rw (ss, os, fs, bs, n-is) (go (dec_le a b))
+  where
+    go : Dec (a ≤ b) → Exchanged a b len xs ((take low (take high xs) ++ (take len (drop high xs) ++ drop len (drop low (take high xs))))
+        ++ (take len (drop low (take high xs)) ++ drop len (drop high xs)))
+    go (yes h) =
+        let x : low ≡ a = omega arith in
+        let y : high ≡ b = omega arith in
+        rw (x, y) (exchanged-up xs a b len (⊎_elim (λ m. m) (λ m. omega arith) e.apart) e.second)
+    go (no h) =
+        let x : low ≡ b = omega arith in
+        let y : high ≡ a = omega arith in
+        rw (x, y) (exchanged-down xs b a len (⊎_elim (λ m. omega arith) (λ m. m) e.apart) e.first)

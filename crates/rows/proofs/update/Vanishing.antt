@@ -15,7 +15,6 @@ use Rattle.field.specs.Operations.{minus_bytes, times_bytes, Listed}
 use Rattle.field.specs.Kernels.{Region}
 use Rattle.field.proofs.OperationLaws.{symbol-times_bytes}
 use Rattle.field.proofs.SymbolLaws.{symbols-field, symbol-byte, zero-byte}
-use Rattle.poly.specs.Buffers.{Decided}
 use Rattle.poly.proofs.Monomials.{delay, delay-at, delay-null}
 use Rattle.curves.specs.Curves.{Curve, Zero}
 use Rattle.curves.specs.Turns.{cross}
@@ -91,11 +90,6 @@ module _ {S : Shape} {xs : List ℕ} {r w s v : ℕ} (x : Crosses S xs r w s v) 
 
   abbrev pub Vanishing : ℕ → Type 0
   Vanishing j = SlotVanishes S c.byte (r * curve_bytes S + j * slot S) (v - w) (s * curve_bytes S + j * slot S) (w - v) xs
-
-  pub vanishing-is : {b : Bool} (j : ℕ) {cv a up f down : ℕ} → cv ≡ c.byte → a ≡ r * curve_bytes S + j * slot S → up ≡ v - w
-      → f ≡ s * curve_bytes S + j * slot S → down ≡ w - v
-      → Decided b (SlotVanishes S cv a up f down xs) → Decided b (Vanishing j)
-  vanishing-is j p q t u z d = rw (p, q, t, u, z) at d
 
   pub slot-zero : {j : ℕ} → j ≤ S.l → Vanishing j → (e : ℕ) → e ≤ S.width → crossed j e ≡ symbol S.p 0
   slot-zero {j} h z e k = same-byte S.p (sym (cross-byte h k) ∙ z e k ∙ sym (zero-byte S.p))

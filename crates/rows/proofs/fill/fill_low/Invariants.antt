@@ -7,6 +7,3 @@ use Rattle.rows.proofs.fill.fill_low.Given as goal
 abbrev pub invariant-loop-q : goal.invariant-loop-q
 invariant-loop-q l = (l.slot ≡ slot_of l.shape) × (l.base ≡ l.i * curve_bytes l.shape) × (l.q ≤ l.i)
     × LowFilled l.shape l.i (l.m - l.i) l.q l.h l.e l.initial.rows l.rows
-
-abbrev pub decreases-loop-q : goal.decreases-loop-q
-decreases-loop-q l = l.i - l.q

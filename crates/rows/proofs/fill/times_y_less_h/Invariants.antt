@@ -4,6 +4,3 @@ use Rattle.rows.proofs.fill.times_y_less_h.Given as goal
 
 abbrev pub invariant-loop-j : goal.invariant-loop-j
 invariant-loop-j l = (l.j ≤ l.slots) × Raising l.p l.h l.base l.slot l.slots l.j l.initial.rows l.rows
-
-abbrev pub decreases-loop-j : goal.decreases-loop-j
-decreases-loop-j l = l.j

@@ -1,18 +1,12 @@
 -- `rows::leading::heavier` meets its contract.
-use mathlib.Core.Bool.{true≢false}
-use mathlib.Core.Path.{sym, ◌∙◌}
-use native.Mathlib.Omega.{arith}
-use Rattle.rows.specs.Work.{absent, lighter, heavier}
+use Rattle.rows.specs.Work.{first, stays, taken}
 use Rattle.rows.proofs.leading.heavier.Goals as goal
 
-pub returns-then-size-eq0 : goal.returns-then-size-eq0
-returns-then-size-eq0 c = absent c.if-size-eq0.true
+pub returns-in-Some : goal.returns-in-Some
+returns-in-Some c = rw c.in-Some.is (stays c.if-term-lead.true)
 
-pub returns-then-weight-found : goal.returns-then-weight-found
-returns-then-weight-found c = lighter (omega arith) c.if-found.true (omega arith)
+pub returns-in_default : goal.returns-in_default
+returns-in_default c = rw c.in-Some.is (taken c.if-term-lead.false)
 
-pub returns-else-weight-found : goal.returns-else-weight-found
-returns-else-weight-found c = heavier (omega arith) (λ _. omega arith)
-
-pub returns-else-found : goal.returns-else-found
-returns-else-found c = heavier (omega arith) (λ e. absurd (true≢false (sym e ∙ c.if-found.false)))
+pub returns-in_default-2 : goal.returns-in_default-2
+returns-in_default-2 c = rw c.in_default.is first

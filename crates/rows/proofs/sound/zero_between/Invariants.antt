@@ -1,10 +1,6 @@
-use mathlib.Core.Path.{◌≡◌}
-use Prim.Native.Nat.{ℕ, ◌-◌, ◌≤◌, ◌<◌}
-use lib.ListN.{get_or}
+use Prim.Native.Nat.{◌+◌}
+use Rattle.rows.specs.Work.{ZeroBetween}
 use Rattle.rows.proofs.sound.zero_between.Given as goal
 
-abbrev pub invariant-loop-i : goal.invariant-loop-i
-invariant-loop-i l = (l.a ≤ l.i) × ((q : ℕ) → q < l.i → l.a ≤ q → get_or l.rows q 0 ≡ 0)
-
-abbrev pub decreases-loop-i : goal.decreases-loop-i
-decreases-loop-i l = l.b - l.i
+abbrev pub invariant-loop-x : goal.invariant-loop-x
+invariant-loop-x l = ZeroBetween l.rows l.a (l.a + l.x-index)

@@ -1,0 +1,11 @@
+-- `Shape::curve_bytes` meets its contract.
+use native.Mathlib.Numerals.{add-one}
+use native.Mathlib.Omega.{arith}
+use Rattle.rows.proofs.Placing.{curve-small}
+use Rattle.rows.proofs.Shape.curve_bytes.Goals as goal
+
+pub overflow_mul-result : goal.overflow_mul-result
+overflow_mul-result c = rw (add-one, c.slot.ensures) (omega (arith, curve-small c.requires))
+
+pub returns : goal.returns
+returns c = rw (add-one, c.slot.ensures)
