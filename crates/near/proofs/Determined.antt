@@ -8,7 +8,10 @@ use native.Mathlib.Omega.{arith}
 use lib.ListN.{length, get_or}
 use lib.Seq.{get_or-take}
 use Rattle.field.specs.Symbols.{symbols}
+use Rattle.std.specs.Prelude.{Result, Ok, Err}
 use Rattle.poly.specs.Buffers.{Places}
+use Rattle.poly.specs.declared.refused.Refused.{Refused}
+use Rattle.poly.proofs.RefusalLaws.{number_of-determines, number_of-positive}
 use Rattle.poly.proofs.TableLaws.{first_determined}
 use Rattle.poly.proofs.Interpolating.{places-only}
 use Rattle.poly.proofs.BufferLaws.{untouched_unique, zeroed_unique}
@@ -16,7 +19,9 @@ use Rattle.curves.specs.Turns.{Outcome}
 use Rattle.curves.proofs.Determined.{end_determined}
 use Rattle.curves.proofs.Least.{weight_unique}
 use Rattle.near.specs.Job.{task_of, list_table, refusal, RuleUpdates, Lists, Answers, HasListed}
-use Rattle.near.specs.declared.Near.{Near}
+use Rattle.near.specs.Job.{Near}
+use Rattle.near.specs.Results.{listed}
+use Rattle.near.specs.declared.Near.{Near as NearBack}
 use Rattle.near.proofs.Messages.{symbols_numbered}
 use Rattle.near.proofs.Lists.{list_unique}
 use Rattle.near.proofs.Listing.{list-taken}
@@ -87,3 +92,16 @@ module _ {p : ℕ} {points word : List ℕ} {k m l t : ℕ} {room messages : Lis
                   let u = a.unvouched (omega arith) in
                   let v = b.unvouched (omega (arith, weight)) in
                   (u.0 ∙ sym v.0, room-same, u.1 ∙ sym v.1)
+
+-- the numbers of a result tell it, so two outcomes of list for the same arguments are the same result
+pub listed-determines : (a b : Result NearBack Refused) → listed a ≡ listed b → a ≡ b
+listed-determines (Ok x) (Ok y) e = ap (λ (n : Near). Ok (record { count = n.count; updates = n.updates; weight = n.weight })) e
+listed-determines (Ok x) (Err b) e = absurd (number_of-positive b (sym (ap (λ (n : Near). n.number) e)))
+listed-determines (Err a) (Ok y) e = absurd (number_of-positive a (ap (λ (n : Near). n.number) e))
+listed-determines (Err a) (Err b) e = ap Err (number_of-determines a b (ap (λ (n : Near). n.number) e))
+
+pub list_result_determined : {p : ℕ} {points word : List ℕ} {k m l t : ℕ} {room messages cleared zeros after also : List ℕ}
+    (a b : Result NearBack Refused) → HasListed p points word k m l t room cleared messages after (listed a)
+    → HasListed p points word k m l t room zeros messages also (listed b)
+    → (a ≡ b) × (cleared ≡ zeros) × (after ≡ also)
+list_result_determined a b f g = let e = list_determined f g in (listed-determines a b e.0, e.1, e.2)

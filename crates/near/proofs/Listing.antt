@@ -12,11 +12,14 @@ use borrow.Author.Rules.{rules}
 use Rattle.field.specs.Symbols.{symbols, symbols_of}
 use Rattle.field.specs.Field.{Ring, FieldLaws}
 use Rattle.field.proofs.SymbolLaws.{symbols-field}
+use Rattle.std.specs.Prelude.{Result, Ok, Err, IsOk}
 use Rattle.poly.specs.Limits.{allowance_most}
 use Rattle.poly.specs.Polynomials.{locator}
 use Rattle.poly.specs.Table.{First, NotListed, BadCount, BadDegree, BadHeights}
 use Rattle.poly.specs.Limits.{working_room}
 use Rattle.poly.specs.Lent.{Zeroed}
+use Rattle.poly.specs.declared.refused.Refused.{Refused}
+use Rattle.poly.proofs.RefusalLaws.{number_of-positive}
 use Rattle.poly.proofs.TableLaws.{first_determined, first-passed, passed-first}
 use Rattle.poly.proofs.Interpolating.{places-distinct}
 use Rattle.poly.proofs.BufferLaws.{zeroed-after}
@@ -31,19 +34,19 @@ use Rattle.rows.specs.Bytes.{shape, curve_bytes, rows_of}
 use Rattle.rows.specs.Jobs.{start_table, BadNote, size, count, degree, heights, row, HasStarted, Goes, HasTurned, HasFinished}
 use Rattle.rows.specs.Demands.{Request, ring_for, shape_for, note_for, updates_bound, Begun, started, turned}
 use Rattle.rows.specs.declared.Note.{Note}
-use Rattle.rows.specs.declared.Started.{Started}
-use Rattle.rows.specs.declared.Turned.{Turned}
-use Rattle.rows.specs.declared.Finished.{Finished}
+use Rattle.rows.specs.Jobs.{Started, Turned, Finished}
+use Rattle.rows.specs.Results.{started as as_started, finished as as_finished}
+use Rattle.rows.specs.declared.Finished.{Finished as FinishedBack}
 use Rattle.rows.proofs.Notes.{formula-most, good-note, good-fine}
 use Rattle.rows.proofs.HeldRows.{holds-row}
 use Rattle.rows.proofs.Demands.{demand_3, demand_2}
 use Rattle.rows.proofs.Accepted.{Accepted, start-accepted, accepted-note}
 use Rattle.rows.proofs.Placing.{rows-small}
 use Rattle.near.specs.Job.{task_of, list_table, refusal, RuleUpdates, Lists, HasListed}
+use Rattle.near.specs.Job.{Near}
 use Rattle.near.specs.Lists.{IsList}
 use Rattle.near.specs.Search.{found}
 use Rattle.near.specs.Work.{curve_of, task_for, plan_of, Laid, Runs, Ran, FoundCurve}
-use Rattle.near.specs.declared.Near.{Near}
 use Rattle.near.specs.declared.Weighed.{Weighed}
 use Rattle.near.specs.declared.search.Plan.{Plan}
 use Rattle.near.proofs.Messages.{symbols_numbered}
@@ -92,6 +95,21 @@ list-taken p points word k m l t room messages first =
     good a b c d (row (inl h)) = omega arith
     good a b c d (row (inr h)) = omega arith
 
+-- start accepts such a request
+pub start-done : {p : ℕ} {points word : List ℕ} {k m l : ℕ} {room rows : List ℕ} {start : Started} → First (start_table p points word k m l room) 0
+    → HasStarted p points word k m l room rows start → start.number ≡ 0
+start-done {p} {points} {word} {k} {m} {l} {room} {start = start} first began =
+    first_determined (start_table p points word k m l room) start.number 0 began.first first
+
+-- a result with the number 0 is that of a job that was done
+pub started-ok : (r : Result Note Refused) → (as_started r).number ≡ 0 → IsOk r
+started-ok (Ok note) e = refl
+started-ok (Err a) e = absurd (number_of-positive a e)
+
+pub finished-ok : (r : Result FinishedBack Refused) → (as_finished r).number ≡ 0 → IsOk r
+finished-ok (Ok back) e = refl
+finished-ok (Err a) e = absurd (number_of-positive a e)
+
 -- start, one turn with the largest allowance, which is more than all updates ever made, and finish
 module _ {p : ℕ} {points word : List ℕ} {k m l : ℕ} {room rows new lent curve : List ℕ} {start : Started} {turn : Turned} {finish : Finished}
     (first : First (start_table p points word k m l room) 0) (began : HasStarted p points word k m l room rows start)
@@ -104,7 +122,7 @@ module _ {p : ℕ} {points word : List ℕ} {k m l : ℕ} {room rows new lent cu
   accepted = start-accepted first refl
 
   begun : Begun q room rows start
-  begun = (began, first_determined (start_table p points word k m l room) start.number 0 began.first first)
+  begun = (began, start-done first began)
 
   enough : updates_bound q ≤ allowance_most
   enough =
@@ -138,6 +156,10 @@ module _ {p : ℕ} {points word : List ℕ} {k m l : ℕ} {room rows new lent cu
       (b.fresh i g).within in
       let (o, t, e, u) = end_alike Φ (fresh_enters Φ (begins-same Φ same b).fresh) (λ i g. sym (same i g)) goes.turn at-end in
       record { h = s.h; through = s.through; allowance = allowance_most; outcome = o; turn = t; finished = e; are = goes.updates ∙ sym u }
+
+  -- and finish hands over the curve
+  pub finish-done : curve_bytes (shape_for q) ≤ length lent → finish.number ≡ 0
+  finish-done fits = (demand_2 q begun enough went ended fits).done
 
   pub curve-found : curve_bytes (shape_for q) ≤ length lent
       → FoundCurve p points word k m l room new lent curve (record { updates = turn.updates; weight = finish.weight })

@@ -23,8 +23,8 @@ use Rattle.rows.specs.Jobs.{TheCurve}
 use Rattle.near.specs.Lists.{Task, polynomial, agreements}
 use Rattle.near.specs.Search.{Fits, each, Searched, slice, lowest, fits?, curve_left, level, opened, found}
 use Rattle.near.specs.Job.{task_of, list_table, Lists, Answers, HasListed}
+use Rattle.near.specs.Job.{Near}
 use Rattle.near.specs.Searching.{HasSearched}
-use Rattle.near.specs.declared.Near.{Near}
 use Rattle.near.proofs.Messages.{symbols_numbered, Numbering}
 use Rattle.near.proofs.Lists.{list_unique}
 use Rattle.near.proofs.Answer.{search-is-list}

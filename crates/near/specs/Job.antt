@@ -2,6 +2,7 @@
 --   task_of p points word k t  what is asked of the list, over the symbols of p
 --   list_table         refusals 1 to 9
 --   flat list          the messages one after the other
+--   Near               what list hands back: its number and the values beside it; Results says which stand for each case
 --   refusal number     what a refusal hands back: its number and zeros
 --   RuleUpdates        how many updates the rule makes from the starting rows to the end
 --   Lists              what an answered list hands back and leaves in the message room: exactly the messages wanted
@@ -18,7 +19,6 @@ use Rattle.curves.specs.Start.{start_row}
 use Rattle.curves.specs.Turns.{Outcome, Turn}
 use Rattle.rows.specs.Jobs.{TheCurve, request_table}
 use Rattle.near.specs.Lists.{Task, IsList}
-use Rattle.near.specs.declared.Near.{Near}
 
 abbrev pub task_of : (p : ℕ) → List ℕ → List ℕ → ℕ → ℕ → Task (symbols p)
 task_of p points word k t =
@@ -34,6 +34,12 @@ list_table p points word k m l t room messages =
 abbrev pub flat : List (List ℕ) → List ℕ
 flat [] = []
 flat (x ∷ list) = x ++ flat list
+
+pub record Near : Type 0 where
+  pub number : ℕ
+  pub count : ℕ
+  pub updates : ℕ
+  pub weight : ℕ
 
 abbrev pub refusal : ℕ → Near
 refusal number = record { number = number; count = 0; updates = 0; weight = 0 }

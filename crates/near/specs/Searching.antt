@@ -5,8 +5,7 @@ use Rattle.field.specs.Symbols.{symbols}
 use Rattle.curves.specs.Curves.{Curve}
 use Rattle.rows.specs.Jobs.{TheCurve}
 use Rattle.near.specs.Search.{Searched}
-use Rattle.near.specs.Job.{task_of, flat}
-use Rattle.near.specs.declared.Near.{Near}
+use Rattle.near.specs.Job.{task_of, flat, Near}
 
 pub record HasSearched (p : ℕ) (points word : List ℕ) (k m l t : ℕ) (after : List ℕ) (back : Near) : Type 0 where
   pub curve : Curve (symbols p).ring

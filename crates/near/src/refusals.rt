@@ -1,32 +1,24 @@
 // The refusals of the list job, in its table's order.
 ghost use Rattle.poly.specs.Table.{First};
+ghost use Rattle.poly.specs.Refusals.{outcome};
 ghost use Rattle.near.specs.Job.{list_table};
 
+use poly::Refused;
 use poly::limits::WORKING_ROOM;
+use rows::Request;
 
-// The first of the refusals 1 to 9 that applies, or 0.
-pub fn refuse_list(
-    p: u8,
-    points: &[u8],
-    word: &[u8],
-    k: u8,
-    m: u8,
-    l: u8,
-    t: u8,
-    room: &[u8],
-    messages: &[u8],
-) -> u8
-    ensures { First (list_table p points.now word.now k m l t room.now messages.now) result }
+// The first of the refusals 1 to 9 that applies, if any.
+pub fn refuse_list(request: &Request, t: u8, room: &[u8], messages: &[u8]) -> Result<(), Refused>
+    ensures { First (list_table request.now.p request.now.points.now request.now.word.now request.now.k request.now.m request.now.l
+        t room.now messages.now) (outcome result) }
 {
-    let number = rows::refuse_request(p, points, word, k, m, l);
-    if number != 0 {
-        return number;
+    request.refuse()?;
+    if t < 1 || request.points.len() < usize::from(t) {
+        return Err(Refused::BadAgreements);
     }
-    if t < 1 || points.len() < t as usize {
-        return 8;
+    let size = usize::from(request.l) * usize::from(request.k);
+    if room.len() < WORKING_ROOM || messages.len() < size {
+        return Err(Refused::TooShort);
     }
-    if room.len() < WORKING_ROOM || messages.len() < l as usize * k as usize {
-        return 9;
-    }
-    0
+    Ok(())
 }

@@ -1,12 +1,16 @@
 -- `near::list` meets its contract: a refusal leaves all as it was; else the curve is found and the working room cleared, and then it is 13
 -- or the search runs.
-use Prim.Native.Nat.{◌≤◌}
+use mathlib.Core.List.{List}
+use Prim.Native.Nat.{ℕ, ◌≤◌}
 use native.Mathlib.Nat.{mul-le-mul}
 use native.Mathlib.Omega.{arith}
 use lib.ListN.{length}
+use Rattle.std.proofs.lemmas.Result.{err_from_is_err_and}
 use Rattle.poly.specs.Limits.{curve_most}
+use Rattle.poly.proofs.RefusalLaws.{number_of-positive}
 use Rattle.poly.specs.Table.{First}
 use Rattle.rows.specs.Bytes.{shape, curve_bytes}
+use Rattle.rows.specs.declared.Request.{Request}
 use Rattle.rows.proofs.Notes.{good-fine}
 use Rattle.rows.proofs.Accepted.{accepted-note}
 use Rattle.rows.proofs.Placing.{curve-small}
@@ -14,67 +18,58 @@ use Rattle.near.specs.Job.{list_table}
 use Rattle.near.proofs.Listing.{Taken, list-taken, search-runs, search-lists, list-refuses, list-unvouched, list-answers}
 use Rattle.near.proofs.list.Goals as goal
 
-pub returns-then-number-ne0 : goal.returns-then-number-ne0
-returns-then-number-ne0 c = list-refuses c.refuse_list-number.ensures c.if-number-ne0.true
+module _ (q : Request) (t : ℕ) (room messages : List ℕ) where
+  takes : First (list_table q.p q.points.now q.word.now q.k q.m q.l t room messages) 0
+      → Taken q.p q.points.now q.word.now q.k q.m q.l t room messages
+  takes = list-taken q.p q.points.now q.word.now q.k q.m q.l t room messages
+
+room-for : (q : Request) {t : ℕ} {room messages : List ℕ} → Taken q.p q.points.now q.word.now q.k q.m q.l t room messages
+    → curve_bytes (shape q.p (length q.points.now) q.k q.m q.l) ≤ curve_most
+room-for q taken = curve-small (good-fine (accepted-note taken.accepted))
+
+pub returns-in_err-refuse_list : goal.returns-in_err-refuse_list
+returns-in_err-refuse_list c =
+    let p = err_from_is_err_and c.from_residual.result c.from_residual.ensures.1 in
+    rw (p.1, p.2) (list-refuses c.in_err-refuse_list.ensures (number_of-positive _))
 
 pub interpolate-weighed-requires : goal.interpolate-weighed-requires
 interpolate-weighed-requires c =
-    let first : let a =
-    c.args in First (list_table a.p a.points.now a.word.now a.k a.m a.l a.t a.room.now a.messages.now) 0 = rw c.if-number-ne0.false at
-    c.refuse_list-number.ensures in
-    let taken : let a = c.args in Taken a.p a.points.now a.word.now a.k a.m a.l a.t a.room.now a.messages.now = let a = c.args in
-    list-taken a.p a.points.now a.word.now a.k a.m a.l a.t a.room.now a.messages.now first in
-    let fits : let a =
-    c.args in curve_bytes (shape a.p (length a.points.now) a.k a.m a.l) ≤ curve_most = curve-small (good-fine
-    (accepted-note taken.accepted)) in
+    let first = c.in_ok-refuse_list.ensures in
+    let taken = takes c.args.request.now c.args.t c.args.room.now c.args.messages.now first in
+    let fits = room-for c.args.request.now taken in
     record { first = taken.start; curve_room = fits }
 
 pub clear-requires : goal.clear-requires
 clear-requires c =
-    let first : let a =
-    c.args in First (list_table a.p a.points.now a.word.now a.k a.m a.l a.t a.room.now a.messages.now) 0 = rw c.if-number-ne0.false at
-    c.refuse_list-number.ensures in
-    let taken : let a = c.args in Taken a.p a.points.now a.word.now a.k a.m a.l a.t a.room.now a.messages.now = let a = c.args in
-    list-taken a.p a.points.now a.word.now a.k a.m a.l a.t a.room.now a.messages.now first in
+    let first = c.in_ok-refuse_list.ensures in
+    let taken = takes c.args.request.now c.args.t c.args.room.now c.args.messages.now first in
     let w = taken.working in
     omega (arith, c.interpolate-weighed.ensures.rest.long)
 
-pub overflow_mul-m : goal.overflow_mul-m
-overflow_mul-m c =
-    let h = mul-le-mul {n₁ = c.args.m} {m₁ = c.args.t} {n₂ = 255} {m₂ = 255} (omega arith) (omega arith) in
-    omega arith
+pub overflow_mul-from : goal.overflow_mul-from
+overflow_mul-from c =
+    let h = mul-le-mul {n₁ = c.args.request.now.m} {m₁ = c.args.t} {n₂ = 255} {m₂ = 255} (omega arith) (omega arith) in
+    rw (c.from.ensures, c.from-2.ensures) (omega (arith, h))
 
-pub returns-then-m-t : goal.returns-then-m-t
-returns-then-m-t c =
-    let first : let a =
-    c.args in First (list_table a.p a.points.now a.word.now a.k a.m a.l a.t a.room.now a.messages.now) 0 = rw c.if-number-ne0.false at
-    c.refuse_list-number.ensures in
-    list-unvouched first c.interpolate-weighed.ensures c.clear.ensures (omega (arith, c.if-m-t.true))
+pub returns-then-from : goal.returns-then-from
+returns-then-from c =
+    let first = c.in_ok-refuse_list.ensures in
+    list-unvouched first c.interpolate-weighed.ensures c.clear.ensures (omega (arith, rw (c.from.ensures, c.from-2.ensures, c.from-3.ensures) at c.if-from.true))
 
 pub run-count-requires : goal.run-count-requires
 run-count-requires c =
-    let first : let a =
-    c.args in First (list_table a.p a.points.now a.word.now a.k a.m a.l a.t a.room.now a.messages.now) 0 = rw c.if-number-ne0.false at
-    c.refuse_list-number.ensures in
-    let taken : let a = c.args in Taken a.p a.points.now a.word.now a.k a.m a.l a.t a.room.now a.messages.now = let a = c.args in
-    list-taken a.p a.points.now a.word.now a.k a.m a.l a.t a.room.now a.messages.now first in
-    let fits : let a =
-    c.args in curve_bytes (shape a.p (length a.points.now) a.k a.m a.l) ≤ curve_most = curve-small (good-fine
-    (accepted-note taken.accepted)) in
+    let first = c.in_ok-refuse_list.ensures in
+    let taken = takes c.args.request.now c.args.t c.args.room.now c.args.messages.now first in
+    let fits = room-for c.args.request.now taken in
     record {
       bounds = (taken.accepted.heights.order, taken.accepted.places.count);
-      runs = search-runs taken c.interpolate-weighed.ensures fits c.if-m-t.false;
+      runs = search-runs taken c.interpolate-weighed.ensures fits (rw (c.from.ensures, c.from-2.ensures, c.from-3.ensures) at c.if-from.false);
     }
 
 pub returns : goal.returns
 returns c =
-    let first : let a =
-    c.args in First (list_table a.p a.points.now a.word.now a.k a.m a.l a.t a.room.now a.messages.now) 0 = rw c.if-number-ne0.false at
-    c.refuse_list-number.ensures in
-    let taken : let a = c.args in Taken a.p a.points.now a.word.now a.k a.m a.l a.t a.room.now a.messages.now = let a = c.args in
-    list-taken a.p a.points.now a.word.now a.k a.m a.l a.t a.room.now a.messages.now first in
-    let fits : let a =
-    c.args in curve_bytes (shape a.p (length a.points.now) a.k a.m a.l) ≤ curve_most = curve-small (good-fine
-    (accepted-note taken.accepted)) in
-    list-answers first c.interpolate-weighed.ensures c.clear.ensures c.if-m-t.false
-    (search-lists taken c.interpolate-weighed.ensures fits c.if-m-t.false c.run-count.ensures)
+    let first = c.in_ok-refuse_list.ensures in
+    let taken = takes c.args.request.now c.args.t c.args.room.now c.args.messages.now first in
+    let fits = room-for c.args.request.now taken in
+    list-answers first c.interpolate-weighed.ensures c.clear.ensures (rw (c.from.ensures, c.from-2.ensures, c.from-3.ensures) at c.if-from.false)
+    (search-lists taken c.interpolate-weighed.ensures fits (rw (c.from.ensures, c.from-2.ensures, c.from-3.ensures) at c.if-from.false) c.run-count.ensures)

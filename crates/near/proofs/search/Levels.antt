@@ -25,7 +25,6 @@ use Rattle.near.specs.Search.{chosen as choice, lowest, fits?, each, level}
 use Rattle.near.specs.Job.{flat}
 use Rattle.near.specs.Work.{curve_of, RootAt, Tries, Shifted, task_for, after, with, kept, Searches, Room, Wrote, Leaves, found_on, Runs, Ran}
 use Rattle.near.specs.declared.search.Plan.{Plan}
-use Rattle.near.proofs.Messages.{spelt-nil}
 use Rattle.near.proofs.search.Found.{level-zero, level-suc, branch}
 use Rattle.near.proofs.search.Shifting.{shifted-back}
 use Rattle.near.proofs.search.Keeping.{wrote-none}
@@ -138,7 +137,7 @@ module _ {plan : Plan} {points word curve₀ chosen₀ : List ℕ} {left : ℕ} 
   abbrev i : ℕ
   i = plan.k - left
 
-  pub next-below : i ≤ plan.shape.u
+  next-below : i ≤ plan.shape.u
   next-below = let n = s.some in let m = s.most in let d = s.received.degree in omega arith
 
   next-up : plan.k - (left - 1) ≡ suc i
@@ -329,26 +328,9 @@ module _ {plan request : Plan} (is : plan ≡ request) {points word curve messag
   first : plan.k - plan.k ≡ 0
   first = omega arith
 
-  pub first_searches : {chosen : List ℕ} → plan.k ≤ length chosen → Searches plan points word curve chosen plan.k
-  first_searches l =
-      record {
-        received = runs.received;
-        laid = runs.laid;
-        some = let d = runs.received.degree in omega arith;
-        most = omega arith;
-        long = l;
-        spelt = rw first spelt-nil;
-      }
-
   -- whatever `chosen` holds, none of it counts yet
   first-after : (chosen : List ℕ) → after plan points word curve chosen plan.k ≡ found_on plan points word curve
   first-after chosen = rw first
-
-  pub first-room : (chosen : List ℕ) → Room plan 0 (after plan points word curve chosen plan.k) messages
-  first-room chosen =
-      let r = runs.room in
-      let a : length (found_on plan points word curve) * plan.k ≤ plan.shape.l * plan.k = mul-le-mul_right plan.k runs.few in
-      record { enough = rw (first-after chosen, zero-add (length (found_on plan points word curve))) (omega arith) }
 
   module _ {curve' chosen chosen' messages' : List ℕ} {r : ℕ}
       (leaves : Leaves plan plan.k 0 (after plan points word curve chosen plan.k) curve curve' chosen chosen' messages messages' r) where

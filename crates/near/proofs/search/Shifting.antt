@@ -169,33 +169,6 @@ module _ {S : Shape} {i c : ℕ} {xs : List ℕ} (tries : Tries S i c xs) {q : �
         };
       }
 
--- a run of slots, from the lowest up
-pub raised-none : {S : Shape} {i c j : ℕ} {xs : List ℕ} → Laid S xs → Lifted S i c j j xs xs
-raised-none {S} {xs = xs} laid =
-    record { laid = laid; slots = λ a e h k g. absurd (omega arith); others = λ a e o. refl; rest = untouched-none (curve_bytes S) xs }
-
-module _ {S : Shape} {i c j q : ℕ} {xs ys zs : List ℕ} (done : Lifted S i c j q xs ys) (from : j ≤ q)
-    (one : Lifted S i c q (suc q) ys zs) where
-  abbrev took : (zs : List ℕ) → ℕ → ℕ → Element S.p
-  took zs a e = sum_of S.p (curve_of S zs a e) (product_of S.p (symbol S.p c) (curve_of S zs (suc a) (e - i)))
-
-  pub raised-more : Lifted S i c j (suc q) xs zs
-  raised-more = record { laid = one.laid; slots = slots; others = others; rest = untouched-then done.rest one.rest }
-    where
-      slots : (a e : ℕ) → j ≤ a → a < suc q → i ≤ e → curve_of S zs a e ≡ took xs a e
-      slots a e h k g = go (dec_lt a q)
-        where
-          go : Dec (a < q) → curve_of S zs a e ≡ took xs a e
-          go (yes l) = one.others a e (inl l) ∙ done.slots a e h l g
-          go (no l) =
-              one.slots a e (omega arith) k g
-              ∙ rw (done.others a e (inr (inl (omega arith))), done.others (suc a) (e - i) (inr (inl (omega arith))))
-
-      others : (a e : ℕ) → (a < j) ⊎ ((suc q ≤ a) ⊎ (e < i)) → curve_of S zs a e ≡ curve_of S xs a e
-      others a e (inl o) = one.others a e (inl (omega arith)) ∙ done.others a e (inl o)
-      others a e (inr (inl o)) = one.others a e (inr (inl o)) ∙ done.others a e (inr (inl (omega arith)))
-      others a e (inr (inr o)) = one.others a e (inr (inr o)) ∙ done.others a e (inr (inr o))
-
 -- which is one of Horner's passes
 module _ {S : Shape} {xs : List ℕ} (laid : Laid S xs) (i c : ℕ) where
   abbrev F : Ring
@@ -236,10 +209,6 @@ pub record Shifting (S : Shape) (i c j : ℕ) (xs ys : List ℕ) : Type 0 where
 passes-suc : (R : Ring) (h : R.Car) (a : ℕ) (f : Seq R) → passes R h (suc a) f ≡ passes R h a (pass R h a f)
 unfolding passes
 passes-suc R h a f = refl
-
-pub shifting-none : {S : Shape} {i c : ℕ} {xs : List ℕ} → Laid S xs → Shifting S i c S.l xs xs
-shifting-none {S} {xs = xs} laid =
-    record { inside = omega arith; laid = laid; left = refl; rest = untouched-none (curve_bytes S) xs }
 
 pub shifting-more : {S : Shape} {i c j : ℕ} {xs ys zs : List ℕ} → Shifting S i c j xs ys → 0 < j → Lifted S i c (j - 1) S.l ys zs
     → Shifting S i c (j - 1) xs zs

@@ -1,16 +1,8 @@
 -- `shift` meets its contract: the passes down to j are made. Assumes nothing.
 use mathlib.Core.Path.{◌≡◌}
 use borrow.Author.Rules.{rules}
-use Rattle.near.proofs.search.Shifting.{shifting-none, shifting-more, shifted}
+use Rattle.near.proofs.search.Shifting.{shifting-more, shifted}
 use Rattle.near.proofs.search.shift.Goals as goal
-
-pub loop-j-init : goal.loop-j-init
-loop-j-init c = shifting-none c.requires.laid
-
-pub raise-requires : goal.raise-requires
-raise-requires c =
-    let h = c.loop-j.invariant.inside in
-    record { tries = record { laid = c.loop-j.invariant.laid; next = c.requires.next; small = c.requires.small }; j_lt_l = search rules }
 
 pub loop-j-preserved : goal.loop-j-preserved
 loop-j-preserved c = shifting-more c.loop-j.invariant c.loop-j-test.true c.raise.ensures

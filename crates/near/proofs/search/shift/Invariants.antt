@@ -3,6 +3,3 @@ use Rattle.near.proofs.search.shift.Given as goal
 
 abbrev pub invariant-loop-j : goal.invariant-loop-j
 invariant-loop-j l = Shifting l.shape l.i l.c.value l.j l.initial.curve l.curve
-
-abbrev pub decreases-loop-j : goal.decreases-loop-j
-decreases-loop-j l = l.j

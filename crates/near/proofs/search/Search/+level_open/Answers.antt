@@ -1,20 +1,15 @@
--- `near::search::level` and `near::search::open` meet their contracts. The loop's invariant: the symbols below c are tried. What is left to choose
--- falls from open to level, and level is above open with as much left.
+-- `level` and `open` of `near::search::Search` meet their contracts. The loop's invariant: the symbols below c are tried. What is left to
+-- choose falls from open to level, and level is above open with as much left.
 use mathlib.Core.Path.{◌≡◌, refl}
 use Prim.Native.Nat.{◌<◌}
 use native.Mathlib.Omega.{arith}
 use Rattle.near.proofs.search.Levels.{going-none, going_searches, going-all, fitting, failing, opens, grown, passed}
-use Rattle.near.proofs.search.Levels.{next-below, spelt-last, front-kept, with-last, with-next, next_searches, back_tries, back-leaves}
-use Rattle.near.proofs.search.+level_open.Goals as goal
-use Rattle.near.proofs.search.+level_open.Goals.{level-then-fits, level-else-fits}
+use Rattle.near.proofs.search.Levels.{spelt-last, front-kept, with-last, with-next, next_searches, back_tries, back-leaves}
+use Rattle.near.proofs.search.Search.+level_open.Goals as goal
+use Rattle.near.proofs.search.Search.+level_open.Goals.{level-then-fits, level-else-fits}
 
 pub level-loop-c-init : goal.level-loop-c-init
 level-loop-c-init t c = (going-none c.requires.searches, c.lowest-low.ensures)
-
-pub level-fits-requires : goal.level-fits-requires
-level-fits-requires t c =
-    let g = going_searches c.requires.searches c.loop-c.invariant.0 in
-    record { laid = g.laid; next = next-below g; small = omega (arith, c.loop-c-test.true) }
 
 pub level-open-found-requires : goal.level-open-found-requires
 level-open-found-requires t c =
@@ -46,7 +41,7 @@ level-loop-c-preserved t c =
 pub level-returns : goal.level-returns
 level-returns t c =
     let g = c.loop-c.invariant.0 in
-    let e : c.loop-c.c ≡ c.args.plan.shape.p = omega (arith, g.upto) in
+    let e : c.loop-c.c ≡ c.args.self.now.plan.shape.p = omega (arith, g.upto) in
     going-all c.requires.searches g e
 
 pub open-keep-requires : goal.open-keep-requires
@@ -54,7 +49,7 @@ open-keep-requires t c =
     let s = c.requires.searches in
     let b = c.requires.c_lt_p in
     let e = c.if-left-eq1.true in
-    record { received = s.received; spelt = spelt-last s b e; room = rw (with-last s b e) c.requires.room }
+    record { spelt = spelt-last s b e; room = rw (with-last s b e) c.requires.room }
 
 pub open-returns-then-left-eq1 : goal.open-returns-then-left-eq1
 open-returns-then-left-eq1 t c =
