@@ -6,18 +6,26 @@ use native.Mathlib.Decide.{ℕ_discrete, dec_lt}
 use native.Mathlib.Omega.{arith}
 use lib.ListN.{length, get_or}
 use lib.Seq.{get_or-take}
+use Rattle.std.specs.Prelude.{Result, Ok, Err}
 use Rattle.poly.specs.Table.{Refusal}
+use Rattle.poly.specs.Refusals.{outcome}
+use Rattle.poly.specs.declared.refused.Refused.{Refused as RefusedBack}
+use Rattle.poly.proofs.RefusalLaws.{outcome-determines, number_of-determines, number_of-positive}
 use Rattle.poly.proofs.TableLaws.{first_determined}
 use Rattle.poly.proofs.BufferLaws.{untouched_unique, zeroed_unique}
 use Rattle.curves.proofs.Least.{weight_unique}
 use Rattle.near.proofs.Messages.{symbols_numbered}
 use Rattle.near.proofs.Lists.{list_unique}
 use Rattle.departures.specs.Jobs.{Puts, ReadsDeparture, read_table}
-use Rattle.departures.specs.Hearing.{hear_table, departure_task, Says, AnswersBoard, HasHeard}
+use Rattle.departures.specs.Hearing.{hear_table, departure_task, Says, AnswersBoard, HasHeard, heard_number, heard_departure}
+use Rattle.departures.specs.Results.{reading, answered, heard}
 use Rattle.departures.specs.Hearing.Says.{nothing, shows, strange, waits}
-use Rattle.departures.specs.declared.Reading.{Reading}
-use Rattle.departures.specs.declared.Heard.{Heard}
-use Rattle.departures.specs.declared.Heard.TheVariants.{Refused}
+use Rattle.departures.specs.Jobs.{Reading}
+use Rattle.departures.specs.Hearing.{Heard}
+use Rattle.departures.specs.Hearing.Heard.{Refused}
+use Rattle.departures.specs.declared.Departure.{Departure}
+use Rattle.departures.specs.declared.Heard.{Heard as HeardBack}
+use Rattle.departures.specs.declared.Heard.TheVariants.{None as NoneBack, One as OneBack, Several as SeveralBack}
 use Rattle.departures.proofs.Outcomes.{reading-same}
 use Rattle.departures.proofs.Hearing.{departures-listed}
 
@@ -93,3 +101,44 @@ module _ {points word : List ℕ} {m l t : ℕ} {room : List ℕ} where
           let a = f.refused n in
           let b = g.refused (λ z. n (same ∙ z)) in
           (a.0 ∙ ap Refused same ∙ sym b.0, a.1 ∙ sym b.1)
+
+-- the numbers of a result tell it, so two outcomes of a job for the same arguments are the same result
+pub reading-determines : (a b : Result Departure RefusedBack) → reading a ≡ reading b → a ≡ b
+reading-determines (Ok x) (Ok y) e = ap (λ (r : Reading). Ok r.departure) e
+reading-determines (Ok x) (Err b) e = absurd (number_of-positive b (sym (ap (λ (r : Reading). r.number) e)))
+reading-determines (Err a) (Ok y) e = absurd (number_of-positive a (ap (λ (r : Reading). r.number) e))
+reading-determines (Err a) (Err b) e = ap Err (number_of-determines a b (ap (λ (r : Reading). r.number) e))
+
+answered-determines : (a b : HeardBack) → answered a ≡ answered b → a ≡ b
+answered-determines NoneBack NoneBack e = refl
+answered-determines (OneBack d) (OneBack x) e = ap OneBack (ap heard_departure e)
+answered-determines SeveralBack SeveralBack e = refl
+answered-determines NoneBack (OneBack x) e = cc
+answered-determines NoneBack SeveralBack e = cc
+answered-determines (OneBack d) NoneBack e = cc
+answered-determines (OneBack d) SeveralBack e = cc
+answered-determines SeveralBack NoneBack e = cc
+answered-determines SeveralBack (OneBack x) e = cc
+
+answered-some : (a : HeardBack) (number : ℕ) → answered a ≡ Refused number → ⊥
+answered-some NoneBack number e = cc
+answered-some (OneBack d) number e = cc
+answered-some SeveralBack number e = cc
+
+pub heard-determines : (a b : Result HeardBack RefusedBack) → heard a ≡ heard b → a ≡ b
+heard-determines (Ok x) (Ok y) e = ap Ok (answered-determines x y e)
+heard-determines (Ok x) (Err b) e = absurd (answered-some x _ e)
+heard-determines (Err a) (Ok y) e = absurd (answered-some y _ (sym e))
+heard-determines (Err a) (Err b) e = ap Err (number_of-determines a b (ap heard_number e))
+
+pub puts_result_determined : {table : List Refusal} {text before after also : List ℕ} (a b : Result Unit RefusedBack)
+    → Puts table text before after (outcome a) → Puts table text before also (outcome b) → (a ≡ b) × (after ≡ also)
+puts_result_determined a b f g = let (e, bytes) = puts_determined f g in (outcome-determines a b e, bytes)
+
+pub reading_result_determined : {xs : List ℕ} (a b : Result Departure RefusedBack) → ReadsDeparture xs (reading a) → ReadsDeparture xs (reading b)
+    → a ≡ b
+reading_result_determined a b f g = reading-determines a b (reading_determined f g)
+
+pub heard_result_determined : {points word : List ℕ} {m l t : ℕ} {room cleared zeros : List ℕ} (a b : Result HeardBack RefusedBack)
+    → HasHeard points word m l t room cleared (heard a) → HasHeard points word m l t room zeros (heard b) → (a ≡ b) × (cleared ≡ zeros)
+heard_result_determined a b f g = let (e, bytes) = heard_determined f g in (heard-determines a b e, bytes)

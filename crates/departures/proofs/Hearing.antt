@@ -27,8 +27,8 @@ use Rattle.departures.specs.Hearing.{hear_table, departure_task, Says, AnswersBo
 use Rattle.departures.specs.Hearing.Says.{nothing, shows, strange, waits}
 use Rattle.departures.specs.Hearing.Hears.{itself, among, unheard}
 use Rattle.departures.specs.declared.Departure.{Departure}
-use Rattle.departures.specs.declared.Heard.{Heard}
-use Rattle.departures.specs.declared.Heard.TheVariants.{One, Refused}
+use Rattle.departures.specs.Hearing.{Heard}
+use Rattle.departures.specs.Hearing.Heard.{One, Refused}
 use Rattle.departures.proofs.DepartureLaws.{six-spell, six_departure}
 use Rattle.departures.proofs.Outcomes.{put-passed}
 

@@ -16,7 +16,7 @@ use Rattle.poly.proofs.TableLaws.{first_determined, first-passed}
 use Rattle.departures.specs.Departures.{InRange, IsDeparture}
 use Rattle.departures.specs.Jobs.{put_table, read_table, Puts}
 use Rattle.departures.specs.declared.Departure.{Departure}
-use Rattle.departures.specs.declared.Reading.{Reading}
+use Rattle.departures.specs.Jobs.{Reading}
 
 pub reading-same : {a b : Reading} → a.number ≡ b.number → a.departure ≡ b.departure → a ≡ b
 reading-same p q = ap₂ (λ (n : ℕ) (d : Departure). record { number = n; departure = d }) p q

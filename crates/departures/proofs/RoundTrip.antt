@@ -7,7 +7,7 @@ use lib.ListN.{length, take}
 use Rattle.departures.specs.Departures.{IsDeparture, six_symbols, departure_of, departure_symbols, time_bytes}
 use Rattle.departures.specs.Jobs.{WritesDeparture, ReadsDeparture, ShowsDeparture}
 use Rattle.departures.specs.declared.Departure.{Departure}
-use Rattle.departures.specs.declared.Reading.{Reading}
+use Rattle.departures.specs.Jobs.{Reading}
 use Rattle.departures.proofs.DepartureLaws.{six-spell, six_departure, spelt-six, spelt-range, clock-once}
 use Rattle.departures.proofs.Outcomes.{put-passed, put-done, read-passed, reading-same}
 

@@ -9,15 +9,15 @@ use Rattle.poly.specs.Limits.{height_most}
 use Rattle.poly.specs.Table.{Refusal, First}
 use Rattle.poly.proofs.TableLaws.{Passed, narrower}
 use Rattle.near.specs.Job.{list_table, flat, Answers, HasListed}
-use Rattle.near.specs.declared.Near.{Near}
+use Rattle.near.specs.Job.{Near}
 use Rattle.departures.specs.Departures.{IsDeparture, departure_of, departure_field, departure_symbols}
 use Rattle.departures.specs.Jobs.{ReadsDeparture}
 use Rattle.departures.specs.Hearing.{hear_table, Says, AnswersBoard, HasHeard}
 use Rattle.departures.specs.Hearing.Says.{nothing, shows, strange, waits}
 use Rattle.departures.specs.declared.Departure.{Departure}
-use Rattle.departures.specs.declared.Reading.{Reading}
-use Rattle.departures.specs.declared.Heard.{Heard}
-use Rattle.departures.specs.declared.Heard.TheVariants.{None, One, Several, Refused}
+use Rattle.departures.specs.Jobs.{Reading}
+use Rattle.departures.specs.Hearing.{Heard}
+use Rattle.departures.specs.Hearing.Heard.{None, One, Several, Refused}
 use Rattle.departures.proofs.Outcomes.{read-passed}
 
 -- what is said where so many messages stand in these bytes

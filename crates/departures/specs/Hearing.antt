@@ -2,6 +2,7 @@
 --   hear_table           its refusals 1 to 9, of which 1 never applies: those of a list over the field of departures, with room of its own
 --                        for the messages
 --   departure_task       what is asked of the list
+--   Heard                what hear hands back, with the number where it is refused; Results says which stands for each case
 --   Says list back       what is said of a list: none, the one departure, several, or 15 for a message that is alone and no departure
 --   AnswersBoard         what an accepted question leaves: with w the curve's weight, 13 where m t is not above w, and else what is said of
 --                        the list
@@ -25,8 +26,6 @@ use Rattle.near.specs.Job.{task_of}
 use Rattle.departures.specs.Departures.{InRange, IsDeparture, six_symbols, departure_of, departure_field, departure_symbols}
 use Rattle.departures.specs.Jobs.{zero_departure}
 use Rattle.departures.specs.declared.Departure.{Departure}
-use Rattle.departures.specs.declared.Heard.{Heard}
-use Rattle.departures.specs.declared.Heard.TheVariants.{None, One, Several, Refused}
 
 abbrev pub hear_table : List ℕ → List ℕ → ℕ → ℕ → ℕ → List ℕ → List Refusal
 hear_table points word m l t room =
@@ -37,6 +36,12 @@ hear_table points word m l t room =
 
 abbrev pub departure_task : List ℕ → List ℕ → ℕ → Task (symbols departure_field)
 departure_task points word t = task_of departure_field points word departure_symbols t
+
+pub data Heard : Type 0 where
+  None : Heard
+  One : Departure → Heard
+  Several : Heard
+  Refused : ℕ → Heard
 
 pub data Says : List (List ℕ) → Heard → Type 0 where
   nothing : Says [] None

@@ -5,13 +5,13 @@
 --   Puts table text ..        what such a job leaves: the text at the front and the rest as it was, or every byte as it was
 --   WritesDeparture, ShowsDeparture    what the writer leaves for a departure, and the printer
 --   zero_departure            the departure of zeros that a refused reader hands back
+--   Reading                   what the reader hands back: its number and the departure; Results says which stand for each case
 --   ReadsDeparture xs back    what the reader hands back
 use Rattle.std.specs.Prelude.{◌≡◌, List, [], ◌∷◌, ℕ, length, take}
 use Rattle.poly.specs.Table.{Refusal, First, TooShort}
 use Rattle.poly.specs.Lent.{Untouched}
 use Rattle.departures.specs.Departures.{InRange, IsDeparture, six_symbols, departure_of, clock, departure_symbols, time_bytes}
 use Rattle.departures.specs.declared.Departure.{Departure}
-use Rattle.departures.specs.declared.Reading.{Reading}
 
 abbrev pub put_table : Departure → ℕ → List ℕ → List Refusal
 put_table d size room = record { number = 15; applies = InRange d → ⊥ } ∷ record { number = 9; applies = TooShort size room } ∷ []
@@ -39,6 +39,10 @@ ShowsDeparture d before after number = Puts (show_table d before) (clock d.minut
 
 abbrev pub zero_departure : Departure
 zero_departure = record { boat = 0; day = 0; minute = 0 }
+
+pub record Reading : Type 0 where
+  pub number : ℕ
+  pub departure : Departure
 
 pub record ReadsDeparture (xs : List ℕ) (back : Reading) : Type 0 where
   pub first : First (read_table xs) back.number

@@ -3,6 +3,8 @@ ghost use Rattle.std.specs.Prelude.{◌≡◌, ◌≤◌, ◌<◌, ◌+◌, leng
 ghost use Rattle.std.proofs.lemmas.List.Edits.{sets};
 ghost use Rattle.departures.specs.Departures.{minute_most, time_bytes, clock};
 
+use crate::limits::TIME_BYTES;
+
 // The byte of a decimal digit.
 fn digit(n: u16) -> u8
     requires { n < 10 }
@@ -11,7 +13,7 @@ fn digit(n: u16) -> u8
     b'0' + n as u8
 }
 
-// Hours and minutes of the service day: the hours go on past 23.
+// Hours and minutes of the service day: the hours go on past 23. Digit by digit, since no clause says that a `write!` into the bytes succeeds.
 pub fn put_clock(minute: u16, text: &mut [u8])
     requires minute_bound { minute ≤ minute_most }
     requires room { time_bytes ≤ length text.old }
@@ -19,9 +21,11 @@ pub fn put_clock(minute: u16, text: &mut [u8])
 {
     let hours = minute / 60;
     let minutes = minute % 60;
-    text[0] = digit(hours / 10);
-    text[1] = digit(hours % 10);
-    text[2] = b':';
-    text[3] = digit(minutes / 10);
-    text[4] = digit(minutes % 10);
+    text[..TIME_BYTES].copy_from_slice(&[
+        digit(hours / 10),
+        digit(hours % 10),
+        b':',
+        digit(minutes / 10),
+        digit(minutes % 10),
+    ]);
 }

@@ -5,8 +5,9 @@ ghost use Rattle.near.specs.Lists.{Spelt};
 ghost use Rattle.departures.specs.Departures.{InRange, six_symbols, with_digit, departure_of, departure_field, departure_symbols};
 
 use crate::Departure;
-use crate::limits::DEPARTURE_FIELD;
+use crate::limits::{DEPARTURE_FIELD, DEPARTURE_SYMBOLS};
 
+// A constant's value calls no function, so `as` makes the wider number.
 const BASE: u16 = DEPARTURE_FIELD as u16;
 
 pub fn put_symbols(departure: Departure, message: &mut [u8])
@@ -14,12 +15,15 @@ pub fn put_symbols(departure: Departure, message: &mut [u8])
     requires room { departure_symbols ≤ length message.old }
     ensures { message.new ≡ sets message.old 0 (six_symbols departure) }
 {
-    message[0] = departure.boat;
-    message[1] = (departure.day / BASE) as u8;
-    message[2] = (departure.day % BASE) as u8;
-    message[3] = (departure.minute / BASE / BASE) as u8;
-    message[4] = (departure.minute / BASE % BASE) as u8;
-    message[5] = (departure.minute % BASE) as u8;
+    let Departure { boat, day, minute } = departure;
+    message[..DEPARTURE_SYMBOLS].copy_from_slice(&[
+        boat,
+        (day / BASE) as u8,
+        (day % BASE) as u8,
+        (minute / BASE / BASE) as u8,
+        (minute / BASE % BASE) as u8,
+        (minute % BASE) as u8,
+    ]);
 }
 
 // The number that two symbols spell, high first.
@@ -27,7 +31,7 @@ fn two_symbols(high: u8, low: u8) -> u16
     requires { (high < departure_field) × (low < departure_field) }
     ensures { result ≡ with_digit high low }
 {
-    high as u16 * BASE + low as u16
+    u16::from(high) * BASE + u16::from(low)
 }
 
 // The number that three symbols spell.
@@ -35,10 +39,10 @@ fn three_symbols(high: u8, middle: u8, low: u8) -> u16
     requires { (high < departure_field) × ((middle < departure_field) × (low < departure_field)) }
     ensures { result ≡ with_digit (with_digit high middle) low }
 {
-    two_symbols(high, middle) * BASE + low as u16
+    two_symbols(high, middle) * BASE + u16::from(low)
 }
 
-// The departure that six symbols spell.
+// The departure that six symbols spell. No conversion of a type: whether they spell one is `read`'s to say.
 pub fn departure_of(message: &[u8]) -> Departure
     requires { Spelt departure_field departure_symbols message.now }
     ensures { result ≡ departure_of message.now }

@@ -1,45 +1,27 @@
 -- `hear` meets its contract: the list job's outcome, taken apart.
-use native.Mathlib.Omega.{arith}
-use mathlib.Core.Path.{◌≡◌, sym}
-use mathlib.Core.List.{List}
-use Prim.Native.Nat.{ℕ, ◌*◌}
-use lib.ListN.{length, take}
-use lib.Seq.{length-take-le}
-use Rattle.poly.specs.Limits.{height_most}
-use Rattle.near.specs.Job.{HasListed}
-use Rattle.near.specs.declared.Near.{Near}
-use Rattle.departures.specs.Departures.{departure_field, departure_symbols}
-use Rattle.departures.proofs.Telling.{lent_messages, heard-refused, heard-listed}
+use mathlib.Core.Path.{refl}
+use Rattle.std.proofs.lemmas.Result.{err_from_is_err_and}
+use borrow.Author.Rules.{rules}
+use Rattle.poly.proofs.RefusalLaws.{number_of-positive}
+use Rattle.departures.proofs.Telling.{heard-refused, heard-listed}
 use Rattle.departures.proofs.Telling.Counted.{none, many, one, other}
 use Rattle.departures.proofs.hear.Goals as goal
 
--- the list job's outcome says which bytes are meant
-six-bytes : {points word room room' messages : List ℕ} {m l t : ℕ} {near : Near}
-    → HasListed departure_field points word departure_symbols m l t room room' lent_messages messages near
-    → length messages ≡ height_most * departure_symbols
-    → departure_symbols ≡ length (take departure_symbols messages)
-six-bytes {messages = messages} h e = sym (length-take-le departure_symbols messages (omega arith))
+pub returns-in_err-near : goal.returns-in_err-near
+returns-in_err-near c =
+    let p = err_from_is_err_and c.from_residual.result c.from_residual.ensures.1 in
+    rw (p.1, p.2) (heard-refused c.in_err-near.ensures (number_of-positive _))
 
-pub returns-then-near-ne0 : goal.returns-then-near-ne0
-returns-then-near-ne0 c = heard-refused c.list-near.ensures c.if-near-ne0.true
+pub returns-in-0 : goal.returns-in-0
+returns-in-0 c = heard-listed c.in_ok-near.ensures refl (none c.in-0.is)
 
-pub returns-then-near-eq0 : goal.returns-then-near-eq0
-returns-then-near-eq0 c = heard-listed c.list-near.ensures c.if-near-ne0.false (none c.if-near-eq0.true)
+pub returns-in_err-read-in-1 : goal.returns-in_err-read-in-1
+returns-in_err-read-in-1 c =
+    let p = err_from_is_err_and c.from_residual-in_err-read-in-1.result c.from_residual-in_err-read-in-1.ensures.1 in
+    rw (p.1, p.2) (heard-listed c.in_ok-near.ensures refl (other c.in-1.is _ c.in_err-read-in-1.ensures (number_of-positive _)))
 
-pub returns-then-near-ne1 : goal.returns-then-near-ne1
-returns-then-near-ne1 c = heard-listed c.list-near.ensures c.if-near-ne0.false (many c.if-near-eq0.false c.if-near-ne1.true)
+pub returns-in_ok-read-in-1 : goal.returns-in_ok-read-in-1
+returns-in_ok-read-in-1 c = heard-listed c.in_ok-near.ensures refl (one c.in-1.is _ c.in_ok-read-in-1.ensures refl)
 
-pub slice_bounds-read-end : goal.slice_bounds-read-end
-slice_bounds-read-end c =
-    let listed = c.list-near in
-    six-bytes listed.ensures listed.auto.messages
-
-pub returns-then-reading-ne0 : goal.returns-then-reading-ne0
-returns-then-reading-ne0 c =
-    heard-listed c.list-near.ensures
-    c.if-near-ne0.false (other c.if-near-ne1.false _ c.read-reading.ensures c.if-reading-ne0.true)
-
-pub returns : goal.returns
-returns c =
-    heard-listed c.list-near.ensures
-    c.if-near-ne0.false (one c.if-near-ne1.false _ c.read-reading.ensures c.if-reading-ne0.false)
+pub returns-in_default : goal.returns-in_default
+returns-in_default c = heard-listed c.in_ok-near.ensures refl (many (search rules) (search rules))
