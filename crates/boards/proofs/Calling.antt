@@ -8,28 +8,47 @@ use native.Mathlib.Decide.{ℕ_discrete}
 use native.Mathlib.Omega.{arith}
 use lib.ListN.{length, take, drop}
 use borrow.Author.Rules.{rules}
+use Rattle.std.specs.Prelude.{Result, Ok, Err}
 use Rattle.poly.specs.Table.{First}
+use Rattle.poly.specs.Refusals.{outcome}
+use Rattle.poly.specs.declared.refused.Refused.{Refused as RefusedBack}
 use Rattle.poly.proofs.TableLaws.{first-passed, first-stops, first-goes, first-then, wider, narrower, closed}
 use Rattle.poly.proofs.BufferLaws.{untouched-none}
 use Rattle.rows.specs.Bytes.{shape, curve_bytes, rows_bytes}
 use Rattle.rows.specs.Jobs.{HasStarted, HasTurned, HasFinished, start_table, turn_table, finish_table, shape_of}
-use Rattle.rows.specs.declared.Started.{Started}
-use Rattle.rows.specs.declared.Turned.{Turned}
-use Rattle.rows.specs.declared.Finished.{Finished}
+use Rattle.rows.specs.Jobs.{Started, Turned, Finished}
+use Rattle.rows.specs.Results.{started, finished}
+use Rattle.rows.specs.declared.Note.{Note}
+use Rattle.rows.specs.declared.Finished.{Finished as FinishedBack}
 use Rattle.rows.proofs.Placing.{curve-some, rows-some}
 use Rattle.near.specs.Job.{HasListed, list_table}
-use Rattle.near.specs.declared.Near.{Near}
+use Rattle.near.specs.Job.{Near}
+use Rattle.near.specs.Results.{listed}
+use Rattle.near.specs.declared.Near.{Near as NearBack}
 use Rattle.departures.specs.Jobs.{read_table, ReadsDeparture}
 use Rattle.departures.specs.Hearing.{hear_table, HasHeard}
-use Rattle.departures.specs.declared.Reading.{Reading}
-use Rattle.departures.specs.declared.Heard.{Heard}
-use Rattle.departures.specs.declared.Heard.TheVariants.{Refused}
+use Rattle.departures.specs.Jobs.{Reading}
+use Rattle.departures.specs.Hearing.{Heard}
+use Rattle.departures.specs.Hearing.Heard.{Refused}
 use Rattle.boards.specs.declared.departure_calls.HeardBack.{HeardBack}
 use Rattle.boards.specs.Lent.{note_bytes, back_bytes, note_of, note_into, back_of_turn, back_of_finish, back_of_list, back_into, Cleared}
 use Rattle.boards.specs.Lent.{departure_bytes, heard_bytes, departure_into, back_of_hear, heard_into}
 use Rattle.boards.specs.Calls.{StartCall, TurnCall, FinishCall, ListCall, start_call_table, turn_call_table, finish_call_table, list_call_table}
 use Rattle.boards.specs.DepartureCalls.{ReadCall, HearCall, read_call_table, hear_call_table}
 use Rattle.boards.proofs.LentLaws.{note-same, cleared-none, cleared-note, cleared-back, cleared_heard, cleared_determined}
+
+-- the number of what a job handed back
+pub started-number : (r : Result Note RefusedBack) → outcome r ≡ (started r).number
+started-number (Ok note) = refl
+started-number (Err refused) = refl
+
+pub finished-number : (r : Result FinishedBack RefusedBack) → outcome r ≡ (finished r).number
+finished-number (Ok back) = refl
+finished-number (Err refused) = refl
+
+pub listed-number : (r : Result NearBack RefusedBack) → outcome r ≡ (listed r).number
+listed-number (Ok back) = refl
+listed-number (Err refused) = refl
 
 -- start
 

@@ -6,7 +6,7 @@ use Prim.Native.Nat.{ℕ, suc, ◌+◌, ◌<◌, ◌≤◌}
 use lib.ListN.{length, get_or}
 use Rattle.rows.specs.Bytes.{rows_bytes}
 use Rattle.rows.specs.Demands.{Request, shape_for}
-use Rattle.rows.specs.declared.Turned.{Turned}
+use Rattle.rows.specs.Jobs.{Turned}
 use Rattle.rows.proofs.Turning.{turned-then}
 use Rattle.rows.proofs.Cutting.{driven_alike, driven-ends}
 use Rattle.boards.specs.declared.Back.{Back}

@@ -10,8 +10,7 @@ use borrow.Author.Rules.{rules}
 use Rattle.poly.proofs.TableLaws.{first-passed}
 use Rattle.rows.specs.Jobs.{HasTurned}
 use Rattle.rows.specs.Demands.{Request, Begun, Driven}
-use Rattle.rows.specs.declared.Started.{Started}
-use Rattle.rows.specs.declared.Turned.{Turned}
+use Rattle.rows.specs.Jobs.{Started, Turned}
 use Rattle.rows.proofs.Demands.{demand_3}
 use Rattle.boards.specs.Lent.{note_bytes, back_bytes, note_of, note_into, back_of_turn, back_of_finish, back_into, updates_of, finished_of}
 use Rattle.boards.specs.Calls.{start_call_table, StartCall, DrivenCalls, PauseCalls}

@@ -9,8 +9,8 @@ use borrow.Author.Rules.{rules}
 use Rattle.departures.specs.Hearing.{Agrees, Hears}
 use Rattle.departures.specs.Hearing.Hears.{itself, among, unheard}
 use Rattle.departures.specs.declared.Departure.{Departure}
-use Rattle.departures.specs.declared.Heard.{Heard}
-use Rattle.departures.specs.declared.Heard.TheVariants.{One, Several}
+use Rattle.departures.specs.Hearing.{Heard}
+use Rattle.departures.specs.Hearing.Heard.{One, Several}
 use Rattle.departures.proofs.Hearing.{first-most, heard-sent}
 use Rattle.boards.specs.Lent.{heard_bytes, back_of_hear, heard_into}
 use Rattle.boards.specs.DepartureCalls.{hear_call_table, HearCall, SentHeard}

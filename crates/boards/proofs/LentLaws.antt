@@ -10,7 +10,7 @@ use Rattle.poly.specs.Lent.{Zeroed}
 use Rattle.poly.proofs.BufferLaws.{untouched-none, zeroed_unique}
 use Rattle.rows.specs.Jobs.{no_note}
 use Rattle.rows.specs.declared.Note.{Note}
-use Rattle.departures.specs.declared.Heard.TheVariants.{Refused}
+use Rattle.departures.specs.Hearing.Heard.{Refused}
 use Rattle.departures.proofs.DepartureLaws.{departure-same}
 use Rattle.boards.specs.declared.Back.{Back}
 use Rattle.boards.specs.declared.departure_calls.HeardBack.{HeardBack}
@@ -96,7 +96,8 @@ cleared-zeros size {xs} h = record { short = λ g. absurd (omega arith); zeroed 
 pub cleared-note : {xs : List ℕ} → note_bytes ≤ length xs → Cleared note_bytes xs (note_into no_note xs)
 cleared-note {xs} h = rw (note-front no_note xs h) (cleared-zeros note_bytes h)
 
-abbrev nothing : Back
+-- what is handed back where a job has none of it
+abbrev pub nothing : Back
 nothing = record { updates = 0; weight = 0; height = 0; count = 0 }
 
 pub cleared-back : {xs : List ℕ} → back_bytes ≤ length xs → Cleared back_bytes xs (back_into nothing xs)

@@ -2,7 +2,7 @@
 --   start_call_table, turn_call_table, finish_call_table, list_call_table  the refusals of each call, in order: its job's, where 9 also says that the
 --                   lent note or back is too short. A turn and a finish first of all need the note that they are to read: 9 without it
 --   StartCall, TurnCall, FinishCall, ListCall    the number by the call's table, and:
---     done          if no line of it applies: what the job's own contract says, with the job's struct in the lent bytes
+--     done          if no line of it applies: what the job's own contract says, with what it hands back in the lent bytes
 --     refused       if one does: every byte is as it was, but for zeros in back, and in the note of a start, where there is room for them
 --   DrivenCalls     a start that is answered with 0, then any number of turns, each on the bytes that the last call left, with room in back
 --   PauseCalls      what holds at every pause of the calls (demand 3)
@@ -13,11 +13,9 @@ use Rattle.poly.specs.Table.{Refusal, First, TooShort}
 use Rattle.rows.specs.Bytes.{shape, curve_bytes, rows_bytes}
 use Rattle.rows.specs.Jobs.{BadNote, shape_of, AsLeft, request_table, HasStarted, HasTurned, HasFinished}
 use Rattle.rows.specs.Demands.{Request, shape_for, HandsCurve, Pause}
-use Rattle.rows.specs.declared.Started.{Started}
-use Rattle.rows.specs.declared.Turned.{Turned}
-use Rattle.rows.specs.declared.Finished.{Finished}
+use Rattle.rows.specs.Jobs.{Started, Turned, Finished}
 use Rattle.near.specs.Job.{HasListed}
-use Rattle.near.specs.declared.Near.{Near}
+use Rattle.near.specs.Job.{Near}
 use Rattle.boards.specs.Lent.{note_bytes, back_bytes, note_of, note_into, updates_of, finished_of, Cleared}
 use Rattle.boards.specs.Lent.{back_of_turn, back_of_finish, back_of_list, back_into}
 

@@ -14,8 +14,8 @@ use Rattle.departures.specs.Departures.{departure_field, departure_symbols}
 use Rattle.departures.specs.Jobs.{read_table, ReadsDeparture}
 use Rattle.departures.specs.Hearing.{HasHeard}
 use Rattle.departures.specs.declared.Departure.{Departure}
-use Rattle.departures.specs.declared.Reading.{Reading}
-use Rattle.departures.specs.declared.Heard.{Heard}
+use Rattle.departures.specs.Jobs.{Reading}
+use Rattle.departures.specs.Hearing.{Heard}
 use Rattle.boards.specs.Lent.{departure_bytes, heard_bytes, bytes_of, departure_into, departure_in, back_of_hear, heard_into, count_in, Cleared}
 
 -- read

@@ -3,7 +3,7 @@
 use Rattle.std.specs.Prelude.{◌≡◌, refl, List, [], ◌∷◌, ℕ}
 use Rattle.rows.specs.declared.Note.{Note}
 use Rattle.departures.specs.declared.Departure.{Departure}
-use Rattle.departures.specs.declared.Heard.TheVariants.{One, Several}
+use Rattle.departures.specs.Hearing.Heard.{One, Several}
 use Rattle.boards.specs.Lent.{note_of, note_into, back_into, updates_of, finished_of}
 use Rattle.boards.specs.Lent.{departure_into, departure_in, back_of_hear, heard_into, count_in}
 

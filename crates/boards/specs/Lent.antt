@@ -17,12 +17,11 @@ use Rattle.std.specs.Prelude.{◌≡◌, List, [], ◌∷◌, ◌++◌, ℕ, ◌
 use Rattle.std.proofs.lemmas.List.Edits.{sets}
 use Rattle.poly.specs.Lent.{Zeroed}
 use Rattle.rows.specs.declared.Note.{Note}
-use Rattle.rows.specs.declared.Turned.{Turned}
-use Rattle.rows.specs.declared.Finished.{Finished}
-use Rattle.near.specs.declared.Near.{Near}
+use Rattle.rows.specs.Jobs.{Turned, Finished}
+use Rattle.near.specs.Job.{Near}
 use Rattle.departures.specs.Hearing.{heard_number, heard_count, heard_departure}
 use Rattle.departures.specs.declared.Departure.{Departure}
-use Rattle.departures.specs.declared.Heard.{Heard}
+use Rattle.departures.specs.Hearing.{Heard}
 use Rattle.boards.specs.declared.Back.{Back}
 use Rattle.boards.specs.declared.departure_calls.HeardBack.{HeardBack}
 

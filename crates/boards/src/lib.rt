@@ -5,10 +5,14 @@
 
 ghost use Rattle.std.specs.Prelude.{◌≡◌, ◌≤◌, length};
 ghost use Rattle.poly.specs.Encode.{Encoded};
-ghost use Rattle.boards.specs.Lent.{note_bytes, back_bytes, note_of, note_into, back_into, Cleared};
+ghost use Rattle.rows.specs.Results.{started, finished};
+ghost use Rattle.near.specs.Results.{listed};
+ghost use Rattle.boards.specs.Lent.{note_bytes, back_bytes, note_of, note_into, back_of_finish, back_of_list, back_into, Cleared};
 ghost use Rattle.boards.specs.Calls.{StartCall, TurnCall, FinishCall, ListCall};
 
-use rows::Note;
+use near::Near;
+use poly::Refused;
+use rows::{Finished, Note, Request};
 
 mod departure_calls; // departure_calls.rt: the jobs on departures for C
 
@@ -17,7 +21,7 @@ const NOTE_BYTES: usize = 6;
 const BACK_BYTES: usize = 5;
 
 // What jobs hand back beside their number; zero stands for what a job does not have.
-#[derive(Clone, Copy)]
+#[derive(Clone, Copy, Default)]
 pub struct Back {
     pub updates: u16,
     pub weight: u8,
@@ -25,6 +29,7 @@ pub struct Back {
     pub count: u8,
 }
 
+// By an index: a pattern over a slice wants an arm that can't come.
 fn read_note(bytes: &[u8]) -> Note
     requires { note_bytes ≤ length bytes.now }
     ensures { result ≡ note_of bytes.now }
@@ -43,23 +48,47 @@ fn write_note(bytes: &mut [u8], note: Note)
     requires { note_bytes ≤ length bytes.old }
     ensures { bytes.new ≡ note_into note bytes.old }
 {
-    bytes[0] = note.p;
-    bytes[1] = note.n;
-    bytes[2] = note.k;
-    bytes[3] = note.m;
-    bytes[4] = note.l;
-    bytes[5] = note.r;
+    let Note { p, n, k, m, l, r } = note;
+    bytes[..NOTE_BYTES].copy_from_slice(&[p, n, k, m, l, r]);
 }
 
 fn write_back(bytes: &mut [u8], back: Back)
     requires { back_bytes ≤ length bytes.old }
     ensures { bytes.new ≡ back_into back bytes.old }
 {
-    bytes[0] = (back.updates % 256) as u8;
-    bytes[1] = (back.updates / 256) as u8;
-    bytes[2] = back.weight;
-    bytes[3] = back.height;
-    bytes[4] = back.count;
+    let [low, high] = back.updates.to_le_bytes();
+    bytes[..BACK_BYTES].copy_from_slice(&[low, high, back.weight, back.height, back.count]);
+}
+
+// A refused start has a note of zeros.
+fn note_of_start(back: Result<Note, Refused>) -> Note
+    ensures { result ≡ (started back).note }
+{
+    back.unwrap_or_default()
+}
+
+fn back_of_finish(back: Result<Finished, Refused>) -> Back
+    ensures { result ≡ back_of_finish (finished back) }
+{
+    let Finished { weight, height } = back.unwrap_or_default();
+    Back {
+        updates: 0,
+        weight,
+        height,
+        count: 0,
+    }
+}
+
+fn back_of_list(back: Result<Near, Refused>) -> Back
+    ensures { result ≡ back_of_list (listed back) }
+{
+    let near = back.unwrap_or_default();
+    Back {
+        updates: near.updates,
+        weight: near.weight,
+        height: 0,
+        count: near.count,
+    }
 }
 
 // Zeros where there is room for them: nothing of an earlier call is left to be taken for this one's.
@@ -76,7 +105,7 @@ fn clear_lent(bytes: &mut [u8], size: usize)
 pub extern "C" fn pluck_encode(p: u8, points: &[u8], message: &[u8], word: &mut [u8]) -> u8
     ensures { Encoded p points.now message.now word.old word.new result }
 {
-    poly::encode(p, points, message, word)
+    poly::outcome(&poly::encode(p, points, message, word))
 }
 
 #[unsafe(no_mangle)]
@@ -93,12 +122,20 @@ pub extern "C" fn pluck_start(
     ensures { StartCall p points.now word.now k m l rows.old rows.new note.old
         note.new result }
 {
+    let request = Request {
+        p,
+        points,
+        word,
+        k,
+        m,
+        l,
+    };
     if note.len() < NOTE_BYTES {
-        return rows::start(p, points, word, k, m, l, &mut []).number;
+        return poly::outcome(&request.start(&mut []));
     }
-    let started = rows::start(p, points, word, k, m, l, rows);
-    write_note(note, started.note);
-    started.number
+    let started = request.start(rows);
+    write_note(note, note_of_start(started));
+    poly::outcome(&started)
 }
 
 #[unsafe(no_mangle)]
@@ -113,11 +150,11 @@ pub extern "C" fn pluck_turn(
 {
     if note.len() < NOTE_BYTES {
         clear_lent(back, BACK_BYTES);
-        return 9;
+        return u8::from(Refused::TooShort);
     }
     let given = read_note(note);
     if back.len() < BACK_BYTES {
-        return given.turn(&mut [], allowance).number;
+        return poly::outcome(&given.turn(&mut [], allowance).outcome);
     }
     let turned = given.turn(rows, allowance);
     write_note(note, turned.note);
@@ -125,12 +162,10 @@ pub extern "C" fn pluck_turn(
         back,
         Back {
             updates: turned.updates,
-            weight: 0,
-            height: 0,
-            count: 0,
+            ..Back::default()
         },
     );
-    turned.number
+    poly::outcome(&turned.outcome)
 }
 
 #[unsafe(no_mangle)]
@@ -140,23 +175,15 @@ pub extern "C" fn pluck_finish(note: &[u8], rows: &[u8], curve: &mut [u8], back:
 {
     if note.len() < NOTE_BYTES {
         clear_lent(back, BACK_BYTES);
-        return 9;
+        return u8::from(Refused::TooShort);
     }
     let given = read_note(note);
     if back.len() < BACK_BYTES {
-        return rows::finish(given, rows, &mut []).number;
+        return poly::outcome(&rows::finish(given, rows, &mut []));
     }
     let finished = rows::finish(given, rows, curve);
-    write_back(
-        back,
-        Back {
-            updates: 0,
-            weight: finished.weight,
-            height: finished.height,
-            count: 0,
-        },
-    );
-    finished.number
+    write_back(back, back_of_finish(finished));
+    poly::outcome(&finished)
 }
 
 #[unsafe(no_mangle)]
@@ -175,18 +202,18 @@ pub extern "C" fn pluck_list(
     ensures { ListCall p points.now word.now k m l t room.old room.new
         messages.old messages.new back.old back.new result }
 {
+    let request = Request {
+        p,
+        points,
+        word,
+        k,
+        m,
+        l,
+    };
     if back.len() < BACK_BYTES {
-        return near::list(p, points, word, k, m, l, t, &mut [], &mut []).number;
+        return poly::outcome(&near::list(&request, t, &mut [], &mut []));
     }
-    let near = near::list(p, points, word, k, m, l, t, room, messages);
-    write_back(
-        back,
-        Back {
-            updates: near.updates,
-            weight: near.weight,
-            height: 0,
-            count: near.count,
-        },
-    );
-    near.number
+    let listed = near::list(&request, t, room, messages);
+    write_back(back, back_of_list(listed));
+    poly::outcome(&listed)
 }
