@@ -16,6 +16,7 @@ fn read_full<R: Read>(input: &mut R, buffer: &mut [u8]) -> io::Result<usize>
         × Consumes (R.remaining input.old) (R.remaining input.new) (take got buffer.new)) }
     ensures end { IfOk result (λ got. got < length buffer.new → IsAtEnd (R.remaining input.new)) }
 {
+    // By hand: std's `read_exact` errs where the input ends early, and its `read_to_end` wants a heap.
     let mut got = 0;
     while got < buffer.len() {
         let more = input.read(&mut buffer[got..])?;

@@ -6,7 +6,7 @@ use Prim.Native.Nat.{ℕ}
 use lib.ListN.{replicate}
 use Rattle.poly.specs.Limits.{messages_most, working_room}
 use Rattle.near.specs.Job.{HasListed}
-use Rattle.near.specs.declared.Near.{Near}
+use Rattle.near.specs.Job.{Near}
 use Rattle.near.proofs.Determined.{list_determined}
 use Rattle.text.specs.Requests.{Meaning}
 use Rattle.text.specs.Answers.{Reply, reply, HasWritten}

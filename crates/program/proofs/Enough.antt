@@ -8,7 +8,7 @@ use native.Mathlib.Omega.{arith}
 use lib.ListN.{length, drop}
 use Rattle.poly.specs.Table.{First}
 use Rattle.near.specs.Job.{list_table, Lists, Answers, HasListed}
-use Rattle.near.specs.declared.Near.{Near}
+use Rattle.near.specs.Job.{Near}
 use Rattle.near.proofs.Listing.{Taken, list-taken}
 use Rattle.text.specs.Answers.{Reply, answer, room_for, HasWritten}
 use Rattle.text.specs.Answers.HasWritten.{written}

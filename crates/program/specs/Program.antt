@@ -5,7 +5,7 @@
 use Rattle.std.specs.Prelude.{List, [], ℕ, replicate}
 use Rattle.poly.specs.Limits.{messages_most, working_room}
 use Rattle.near.specs.Job.{HasListed}
-use Rattle.near.specs.declared.Near.{Near}
+use Rattle.near.specs.Job.{Near}
 use Rattle.text.specs.Requests.{Meaning, Readable}
 use Rattle.text.specs.Answers.{Reply, reply, HasWritten}
 

@@ -5,15 +5,16 @@ use mathlib.Core.List.{List}
 use Prim.Native.Nat.{ℕ, ◌*◌, ◌≤◌, ◌<◌}
 use native.Mathlib.Omega.{arith}
 use lib.ListN.{length, drop, length-append, length-drop}
-use Rattle.text.specs.Requests.{stored, HasRead}
+use Rattle.std.proofs.Common.{Option, Some}
+use Rattle.text.specs.Requests.{Meaning, stored, HasRead}
 use Rattle.text.specs.Requests.HasRead.{readable, unreadable}
 use Rattle.text.specs.Answers.{Reply, answer, room_for, HasWritten}
 use Rattle.text.specs.Answers.HasWritten.{written, refused}
 use Rattle.text.specs.declared.Request.{Request}
 use Rattle.text.proofs.Grammar.{one-meaning}
 
-pub read_determined : {text : List ℕ} {a b : Request} → HasRead text a → HasRead text b → a ≡ b
-read_determined (readable r p) (readable s q) = ap stored (one-meaning p q)
+pub read_determined : {text : List ℕ} {a b : Option Request} → HasRead text a → HasRead text b → a ≡ b
+read_determined (readable r p) (readable s q) = ap (λ (r : Meaning). Some (stored r)) (one-meaning p q)
 read_determined (readable r p) (unreadable n) = absurd (n r p)
 read_determined (unreadable n) (readable s q) = absurd (n s q)
 read_determined (unreadable n) (unreadable m) = refl

@@ -7,7 +7,8 @@ use lib.ListN.{length}
 use Rattle.text.specs.Requests.{Number, Numbers, Optional}
 use Rattle.text.specs.Requests.Numbers.{single, more}
 use Rattle.text.specs.Requests.Optional.{nothing, given}
-use Rattle.text.specs.Reading.{Free}
+use Rattle.std.proofs.Common.{Option, Some, None}
+use Rattle.text.specs.Reading.{Free, Meant}
 use Rattle.text.proofs.Seeking.{free-cons, free-join, free_not, free-parts}
 
 -- commas and line feeds come before the digits
@@ -72,3 +73,9 @@ optional-empty (x ∷ text) other h = absurd (omega arith)
 pub optional-given : {text : List ℕ} {other n : ℕ} → (length text ≡ 0 → ⊥) → Optional other text n → Number text n
 optional-given h nothing = absurd (h refl)
 optional-given h (given r) = r
+
+-- a text that is not empty
+pub optional_number : (text : List ℕ) (other : ℕ) (found : Option ℕ) → (length text ≡ 0 → ⊥) → Meant found (Number text)
+    → Meant found (Optional other text)
+optional_number text other None h f = λ n r. f n (optional-given h r)
+optional_number text other (Some n) h f = given f

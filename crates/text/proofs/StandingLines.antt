@@ -1,60 +1,50 @@
--- Lines at their places in a text: where one stands, what is taken of it, and that every reading of the text takes the same and goes on after it.
-use mathlib.Core.Path.{◌≡◌, refl, sym, ap, ◌∙◌, subst}
-use mathlib.Core.Bool.{Bool, false, false≢true}
-use mathlib.Core.List.{List, ◌∷◌, ◌++◌, append_cancel_left}
-use Prim.Native.Nat.{ℕ, ◌+◌, ◌≤◌, ◌<◌}
-use native.Mathlib.Omega.{arith}
-use lib.ListN.{length, drop}
+-- Lines at the beginning of a text: how one is found, and that each reading of the text has its value there and goes on after it.
+use Rattle.std.proofs.Common.{◌≡◌, ◌≢◌, List, ◌∷◌, ◌++◌, ℕ, suc, ◌+◌, ◌-◌, ◌<◌, length, get_or, take, drop, sym, ap, ◌∙◌, subst}
+use Rattle.std.proofs.Common.{arith, add-one, length-drop, length-take, get_or-take, take-append-drop}
+use Rattle.std.specs.List.{AllWithin, HoldsAt}
+use mathlib.Core.List.{append_cancel_left}
+use lib.Seq.{drop-cons, take_all}
 use Rattle.text.specs.Requests.{Line}
-use Rattle.text.specs.Reading.{Any, Seeks, Stands, Meant, Taken, Takes, part}
-use Rattle.text.proofs.Seeking.{seek_seam, seek-last, free_not}
-use Rattle.text.proofs.Grammar.{Plain, line-flat, line-map, line-parts, line-same}
+use Rattle.text.specs.Reading.{Any, Stands}
+use Rattle.text.proofs.Seeking.{free_not}
+use Rattle.text.proofs.Grammar.{Plain, line-flat, line-parts, line-map}
 
-module _ (key text : List ℕ) (at : ℕ) {to : ℕ} (key_is : drop at text ≡ key ++ drop (at + length key) text)
-    (ends : Seeks 10 text (at + length key) to) where
-  pub stands : to < length text → Stands key text at (at + length key) to
-  stands h =
-      let from = at + length key in
-      record {
-        ordered = ends.ordered;
-        inside = h;
-        is = key_is ∙ ap (λ (l : List ℕ). key ++ l) (seek_seam ends h) ∙ sym (line-flat key (part from to text) (drop (to + 1) text));
-        free = ends.free;
-      }
+-- the value goes up to the first line feed after the key
+pub line_ends : (key text rest : List ℕ) (end : ℕ) → text ≡ key ++ rest → end < length rest → HoldsAt (λ b. b ≡ 10) rest end
+    → AllWithin (λ b. b ≢ 10) rest 0 end
+    → Stands key text (take end rest) (take (length rest - (end + 1)) (drop (end + 1) rest))
+line_ends key text rest end e h b f =
+    let after : rest ≡ take end rest ++ 10 ∷ drop (end + 1) rest =
+    sym (take-append-drop end rest)
+    ∙ ap (λ (l : List ℕ). take end rest ++ l) (rw (add-one, drop-cons rest end 0 h) (ap (λ (x : ℕ). x ∷ drop (suc end) rest) (b 0))) in
+    let whole : take (length rest - (end + 1)) (drop (end + 1) rest) ≡ drop (end + 1) rest =
+    take_all (length rest - (end + 1)) (drop (end + 1) rest) (rw length-drop (omega arith)) in
+    record {
+      is = e ∙ ap (λ (l : List ℕ). key ++ l) (after ∙ rw whole) ∙ sym (line-flat key (take end rest) _);
+      free = λ i k n.
+          let inside : i < end = omega (arith, length-take end rest) in f i 0 (omega arith) inside (sym (get_or-take end rest i 0 inside) ∙ n);
+    }
 
-  pub stands_not : length text ≤ to → Line key Any Any (drop at text) → ⊥
-  stands_not h a =
-      let from = at + length key in
-      let e : drop from text ≡ a.value ++ 10 ∷ a.rest = append_cancel_left key _ _ (sym key_is ∙ a.is ∙ line-flat key a.value a.rest) in
-      free_not 10 a.value a.rest (rw (sym (seek-last ends h) ∙ e) at ends.free)
+pub no_line : (key text rest : List ℕ) → text ≡ key ++ rest → AllWithin (λ b. b ≢ 10) rest 0 (length rest) → Line key Any Any text → ⊥
+no_line key text rest e f l =
+    let after : rest ≡ l.value ++ 10 ∷ l.rest = append_cancel_left key _ _ (sym e ∙ l.is ∙ line-flat key l.value l.rest) in
+    free_not 10 l.value l.rest (λ i h k. f i 0 (omega arith) (omega (arith, ap length after)) (ap (λ (xs : List ℕ). get_or xs i 0) after ∙ k))
 
-module _ {A : Type 0} {Value : List ℕ → A → Type 0} {key text : List ℕ} {at : ℕ} where
-  pub takes-none : (x : A) (next : ℕ) → (Line key Any Any (drop at text) → ⊥) → Takes key Value text at false x next
-  takes-none x next f = record { holds = λ e. absurd (false≢true e); fails = λ _ y a. f (line-map (λ v h. tt) (λ rest h. tt) a) }
+pub any_line : {key text : List ℕ} {Value Rest : List ℕ → Type 0} → Line key Value Rest text → Line key Any Any text
+any_line l = line-map (λ v h. tt) (λ rest h. tt) l
 
-  pub takes : {from to : ℕ} {ok : Bool} {x : A} → Plain Value → Stands key text at from to → Meant ok x (Value (part from to text))
-      → Takes key Value text at ok x (to + 1)
-  takes {from = from} {to = to} plain s found = record {
-    holds = λ e. record {
-      inside = omega (arith, s.inside);
-      starts = record { value = part from to text; rest = drop (to + 1) text; is = s.is; means = found.holds e; follows = refl };
-    };
-    fails = λ e y a. found.fails e y (subst (λ v. Value v y) (sym (is-part y a)) a.means);
-  }
-    where
-      is-part : (y : A) (a : Line key (λ v. Value v y) Any (drop at text)) → part from to text ≡ a.value
-      is-part y a =
-          (line-parts key (part from to text) a.value (drop (to + 1) text) a.rest s.free (plain.free a.value y a.means)
-          (sym s.is ∙ a.is)).0
+module _ {A : Type 0} {Value : List ℕ → A → Type 0} {x : A} {key text value rest : List ℕ} {Rest : List ℕ → Type 0} (plain : Plain Value)
+    (s : Stands key text value rest) (l : Line key (λ v. Value v x) Rest text) where
+  same : (l.value ≡ value) × (l.rest ≡ rest)
+  same = line-parts key l.value value l.rest rest (plain.free l.value x l.means) s.free (sym l.is ∙ s.is)
 
-  pub passes : {x y : A} {next : ℕ} {R : List ℕ → Type 0} → Plain Value → Taken key Value text at x next
-      → Line key (λ v. Value v y) R (drop at text) → (x ≡ y) × R (drop next text)
-  passes {R = R} plain t a = let s = line-same plain t.starts a in (s.is, subst R s.left s.right)
+  -- each reading of the line has this value, and goes on after it
+  pub means : Value value x
+  means = subst (λ v. Value v x) same.0 l.means
 
-  pub refuses : {ok : Bool} {x : A} {next : ℕ} {R : List ℕ → Type 0} (y : A) → Takes key Value text at ok x next → ok ≡ false
-      → Line key (λ v. Value v y) R (drop at text) → ⊥
-  refuses y t e a = t.fails e y (line-map (λ v h. h) (λ rest h. tt) a)
+  pub goes_on : Rest rest
+  goes_on = subst Rest same.1 l.follows
 
-  pub goes_on : {x : A} {next : ℕ} {R : List ℕ → Type 0} → Taken key Value text at x next → R (drop next text)
-      → Line key (λ v. Value v x) R (drop at text)
-  goes_on {R = R} t h = line-map (λ v p. p) (λ rest e. subst R (sym e) h) t.starts
+pub stands_line : {key text value rest : List ℕ} {Value Rest : List ℕ → Type 0} → Stands key text value rest → Value value → Rest rest
+    → Line key Value Rest text
+stands_line {value = value} {rest = rest} s v r = record { value = value; rest = rest; is = s.is; means = v; follows = r }

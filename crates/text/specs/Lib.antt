@@ -1,6 +1,7 @@
 pub mod Lines
 pub mod Requests
 pub mod Answers
+pub mod Replies
 pub mod Examples
 pub mod Reading
 pub mod Writing

@@ -10,10 +10,9 @@
 --   Meaning                  what a request asks for
 --   lines r                  the forms of the seven lines that mean r
 --   Readable text r          the text can be read, and means r
---   padded ns                numbers as a request keeps them: zeros fill the array
---   stored r, unread         what is handed back for a text that means r, and for one that can't be read
---   HasRead text back        what is handed back: the meaning, or zeros where there is none
-use Rattle.std.specs.Prelude.{◌≡◌, true, false, List, [], ◌∷◌, ◌++◌, ℕ, zero, suc, ◌+◌, ◌-◌, ◌*◌, ◌≤◌, ◌<◌, length, get_or, replicate}
+--   stored r                 the request that means r
+--   HasRead text back        what is handed back: the request, or nothing where the text means nothing
+use Rattle.std.specs.Prelude.{◌≡◌, List, [], ◌∷◌, ◌++◌, ℕ, zero, suc, ◌+◌, ◌-◌, ◌*◌, ◌≤◌, ◌<◌, length, get_or, Option, Some, None}
 use Rattle.poly.specs.Limits.{field_most}
 use Rattle.text.specs.Lines.{bytes, line}
 use Rattle.text.specs.declared.Request.{Request}
@@ -79,37 +78,17 @@ lines r =
 abbrev pub Readable : List ℕ → Meaning → Type 0
 Readable text r = Lines (lines r) text
 
-abbrev pub padded : List ℕ → List ℕ
-padded ns = ns ++ replicate (field_most - length ns) 0
-
 abbrev pub stored : Meaning → Request
 stored r = record {
-  ok = true;
   field = r.field;
   k = r.k;
   m = r.m;
   l = r.l;
   t = r.t;
-  n = length r.points;
-  points = padded r.points;
-  count = length r.word;
-  word = padded r.word;
+  points = record { items = r.points };
+  word = record { items = r.word };
 }
 
-abbrev pub unread : Request
-unread = record {
-  ok = false;
-  field = 0;
-  k = 0;
-  m = 0;
-  l = 0;
-  t = 0;
-  n = 0;
-  points = padded [];
-  count = 0;
-  word = padded [];
-}
-
-pub data HasRead (text : List ℕ) : Request → Type 0 where
-  readable : (r : Meaning) → Readable text r → HasRead text (stored r)
-  unreadable : ((r : Meaning) → Readable text r → ⊥) → HasRead text unread
+pub data HasRead (text : List ℕ) : Option Request → Type 0 where
+  readable : (r : Meaning) → Readable text r → HasRead text (Some (stored r))
+  unreadable : ((r : Meaning) → Readable text r → ⊥) → HasRead text None

@@ -1,10 +1,11 @@
--- What the parts of the writer hand back.
---   Put before at text bound after next   the text, at most `bound` bytes long, was put at `at` and nothing else changed; `next` is the place
---                                         after it
+-- What the parts of the writer leave.
+--   Put before text bound after   the text, at most `bound` bytes long, was put after what was written, and nothing else changed
 use Rattle.std.specs.Prelude.{◌≡◌, List, ◌++◌, ℕ, ◌+◌, ◌≤◌, length, take, drop}
+use Rattle.text.specs.declared.writing.Page.{Page}
 
-pub record Put (before : List ℕ) (at : ℕ) (text : List ℕ) (bound : ℕ) (after : List ℕ) (next : ℕ) : Type 0 where
+pub record Put (before : Page) (text : List ℕ) (bound : ℕ) (after : Page) : Type 0 where
   pub short : length text ≤ bound
-  pub inside : at + length text ≤ length before
-  pub ends : next ≡ at + length text
-  pub is : after ≡ take at before ++ text ++ drop next before
+  pub inside : before.len + length text ≤ length before.out.now
+  pub ends : after.len ≡ before.len + length text
+  pub is : after.out.now ≡ take before.len before.out.now ++ text ++ drop after.len before.out.now
+  pub same : after.out.ghost_name ≡ before.out.ghost_name

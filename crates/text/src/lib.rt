@@ -1,123 +1,108 @@
 // The program's text: a request is read from seven lines, and an answer is written as lines, both in lent bytes.
 #![tactic(auto)]
 
-ghost use Rattle.std.specs.Prelude.{◌≡◌};
-ghost use Rattle.text.specs.Requests.{HasRead, unread};
+ghost use Rattle.std.specs.Prelude.{◌≡◌, []};
+ghost use Rattle.text.specs.Requests.{HasRead};
 ghost use Rattle.text.specs.Answers.{reply, HasWritten};
+ghost use Rattle.text.specs.Replies.{said};
 
+use arrayvec::ArrayVec;
 use poly::limits::FIELD_MOST;
+use reading::{number, numbers, optional, take_line};
+use writing::Page;
 
-mod reading; // reading.rt: keys, numbers and lines in a text
-mod writing; // writing.rt: numbers and lines put into a buffer
+mod reading; // reading.rt: lines, numbers and lists of numbers in a text
+mod writing; // writing.rt: numbers and lines put on a page
 
-#[derive(Clone, Copy)]
+#[derive(Drop)]
 pub struct Request {
-    pub ok: bool,
     pub field: u8,
     pub k: u8,
     pub m: u8,
     pub l: u8,
     pub t: u8,
-    pub n: u8,
-    pub points: [u8; FIELD_MOST],
-    pub count: u8,
-    pub word: [u8; FIELD_MOST],
+    pub points: ArrayVec<u8, FIELD_MOST>,
+    pub word: ArrayVec<u8, FIELD_MOST>,
 }
 
-// What is handed back for a text that cannot be read.
-fn unread() -> Request
-    ensures { result ≡ unread }
-{
-    Request {
-        ok: false,
-        field: 0,
-        k: 0,
-        m: 0,
-        l: 0,
-        t: 0,
-        n: 0,
-        points: [0u8; FIELD_MOST],
-        count: 0,
-        word: [0u8; FIELD_MOST],
-    }
-}
-
-pub fn read(text: &[u8]) -> Request
+// The request that the text means, if it can be read.
+pub fn read(text: &[u8]) -> Option<Request>
     ensures { HasRead text.now result }
 {
-    let field = reading::number_line(text, 0, b"field=");
-    if !field.ok {
-        return unread();
+    let (field, rest) = take_line(text, b"field=")?;
+    let (k, rest) = take_line(rest, b"k=")?;
+    let (m, rest) = take_line(rest, b"m=")?;
+    let (l, rest) = take_line(rest, b"l=")?;
+    let (t, rest) = take_line(rest, b"t=")?;
+    let (points, rest) = take_line(rest, b"points=")?;
+    let (word, rest) = take_line(rest, b"word=")?;
+    if !rest.is_empty() {
+        return None;
     }
-    let k = reading::number_line(text, field.next, b"k=");
-    if !k.ok {
-        return unread();
-    }
-    let m = reading::optional_line(text, k.next, b"m=", 1);
-    if !m.ok {
-        return unread();
-    }
-    let l = reading::optional_line(text, m.next, b"l=", m.value);
-    if !l.ok {
-        return unread();
-    }
-    let t = reading::number_line(text, l.next, b"t=");
-    if !t.ok {
-        return unread();
-    }
-    let points = reading::numbers_line(text, t.next, b"points=");
-    if !points.ok {
-        return unread();
-    }
-    let word = reading::numbers_line(text, points.next, b"word=");
-    if !word.ok {
-        return unread();
-    }
-    if word.next < text.len() {
-        return unread();
-    }
-    let point_items = points.items;
-    let word_items = word.items;
-    Request {
-        ok: true,
-        field: field.value,
-        k: k.value,
-        m: m.value,
-        l: l.value,
-        t: t.value,
-        n: points.count,
-        points: point_items,
-        count: word.count,
-        word: word_items,
-    }
+    let field = number(field)?;
+    let k = number(k)?;
+    let m = optional(m, 1)?;
+    let l = optional(l, m)?;
+    let t = number(t)?;
+    let points = numbers(points)?;
+    let word = numbers(word)?;
+    Some(Request {
+        field,
+        k,
+        m,
+        l,
+        t,
+        points,
+        word,
+    })
 }
 
-// The answer's text at the front of out, and its length. Where out may be too short, or the messages are too few, nothing is written.
-pub fn write(
-    number: u8,
-    updates: u16,
-    weight: u8,
-    count: u8,
-    k: u8,
-    messages: &[u8],
-    out: &mut [u8],
-) -> usize
-    ensures { HasWritten (reply number updates weight count k messages.now) out.old out.new result }
-{
-    let lines = count as usize;
-    let symbols = k as usize;
-    if messages.len() < lines * symbols {
-        return 0;
+// What is printed: the number of the table, and beside the number 0 the list. Any number may be asked for, so it is no enum.
+#[derive(Clone, Copy)]
+pub struct Reply<'a> {
+    pub number: u8,
+    pub updates: u16,
+    pub weight: u8,
+    pub count: u8,
+    pub k: u8,
+    pub messages: &'a [u8],
+}
+
+impl Reply<'_> {
+    // The number alone.
+    pub fn refusal(number: u8) -> Reply<'static>
+        ensures { said result ≡ reply number 0 0 0 0 [] }
+    {
+        Reply {
+            number,
+            updates: 0,
+            weight: 0,
+            count: 0,
+            k: 0,
+            messages: b"",
+        }
     }
-    if out.len() < 52 + lines * (9 + 6 * symbols) {
-        return 0;
+
+    // The answer's text at the front of out, and its length. Where out may be too short, or the messages are too few, nothing is written.
+    pub fn write(&self, out: &mut [u8]) -> usize
+        ensures { HasWritten (said self.now) out.old out.new result }
+    {
+        let lines = usize::from(self.count);
+        let symbols = usize::from(self.k);
+        if self.messages.len() < lines * symbols {
+            return 0;
+        }
+        if out.len() < 52 + lines * (9 + 6 * symbols) {
+            return 0;
+        }
+        let mut page = Page { out, len: 0 };
+        page.put_line(b"answer=", u16::from(self.number));
+        if self.number == 0 {
+            page.put_line(b"updates=", self.updates);
+            page.put_line(b"weight=", u16::from(self.weight));
+            page.put_line(b"count=", u16::from(self.count));
+            page.put_messages(lines, symbols, self.messages);
+        }
+        page.len
     }
-    let next = writing::put_line(out, 0, b"answer=", number as u16);
-    if number != 0 {
-        return next;
-    }
-    let next = writing::put_line(out, next, b"updates=", updates);
-    let next = writing::put_line(out, next, b"weight=", weight as u16);
-    let next = writing::put_line(out, next, b"count=", count as u16);
-    writing::put_messages(out, next, lines, symbols, messages)
 }

@@ -1,97 +1,85 @@
-// Numbers and lines put into a buffer at a place. Each function hands back the place after what it put. A number takes at most five digits.
-ghost use Rattle.std.specs.Prelude.{[], ◌∷◌, ◌++◌, ◌+◌, ◌*◌, ◌≤◌, length};
+// Numbers and lines put on a page: bytes that are lent, and written from their front. A number takes at most five digits.
+ghost use Rattle.std.specs.Prelude.{[], ◌∷◌, ◌+◌, ◌*◌, ◌≤◌, length};
 ghost use Rattle.text.specs.Lines.{bytes, line};
-ghost use Rattle.text.specs.Answers.{decimal, comma, commas, message_lines};
+ghost use Rattle.text.specs.Answers.{decimal, commas, message_lines};
 ghost use Rattle.text.specs.Writing.{Put};
 
-fn put_byte(out: &mut [u8], at: usize, b: u8) -> usize
-    requires { at + 1 ≤ length out.old }
-    ensures { Put out.old at (b ∷ []) 1 out.new result }
-{
-    out[at] = b;
-    at + 1
+use itoa::Buffer;
+
+// The first `len` bytes are written.
+#[derive(Drop)]
+pub struct Page<'a> {
+    pub out: &'a mut [u8],
+    pub len: usize,
 }
 
-fn put_bytes(out: &mut [u8], at: usize, text: &[u8]) -> usize
-    requires { at + length text.now ≤ length out.old }
-    ensures { Put out.old at text.now (length text.now) out.new result }
-{
-    let mut i: usize = 0;
-    while i < text.len() {
-        out[at + i] = text[i];
-        i += 1;
+impl Page<'_> {
+    fn put_byte(&mut self, b: u8)
+        requires { self.old.len + 1 ≤ length self.old.out.now }
+        ensures { Put self.old (b ∷ []) 1 self.new }
+    {
+        self.out[self.len] = b;
+        self.len += 1;
     }
-    at + i
-}
 
-// A number in decimal: the tens, then the last digit.
-fn put_number(out: &mut [u8], at: usize, n: u16) -> usize
-    requires { at + 5 ≤ length out.old }
-    ensures { Put out.old at (decimal n) 5 out.new result }
-{
-    if n < 10 {
-        return put_byte(out, at, b'0' + n as u8);
+    fn put_bytes(&mut self, text: &[u8])
+        requires { self.old.len + length text.now ≤ length self.old.out.now }
+        ensures { Put self.old text.now (length text.now) self.new }
+    {
+        let end = self.len + text.len();
+        self.out[self.len..end].copy_from_slice(text);
+        self.len = end;
     }
-    let last = put_number(out, at, n / 10);
-    put_byte(out, last, b'0' + (n % 10) as u8)
-}
 
-pub fn put_line(out: &mut [u8], at: usize, key: &[u8], n: u16) -> usize
-    requires { at + (length key.now + 6) ≤ length out.old }
-    ensures { Put out.old at (line key.now (decimal n)) (length key.now + 6) out.new result }
-{
-    let from = put_bytes(out, at, key);
-    let to = put_number(out, from, n);
-    put_byte(out, to, b'\n')
-}
-
-// Number i of a list, after a comma unless it is the first.
-fn put_item(out: &mut [u8], at: usize, i: usize, n: u8) -> usize
-    requires { at + 6 ≤ length out.old }
-    ensures { Put out.old at (comma i ++ decimal n) 6 out.new result }
-{
-    if i == 0 {
-        return put_number(out, at, n as u16);
+    // A number in decimal, by itoa: of a `write!` into bytes std does not say which bytes it leaves.
+    #[tactic(auto, using(crate::proofs::Decimals::decimal_std))]
+    fn put_number(&mut self, n: u16)
+        requires { self.old.len + 5 ≤ length self.old.out.now }
+        ensures { Put self.old (decimal n) 5 self.new }
+    {
+        let mut buffer = Buffer::new();
+        self.put_bytes(buffer.format(n).as_bytes());
     }
-    let next = put_byte(out, at, b',');
-    put_number(out, next, n as u16)
-}
 
-fn put_numbers(out: &mut [u8], at: usize, ns: &[u8]) -> usize
-    requires { at + 6 * length ns.now ≤ length out.old }
-    ensures { Put out.old at (commas ns.now) (6 * length ns.now) out.new result }
-{
-    let mut next = at;
-    let mut i: usize = 0;
-    while i < ns.len() {
-        next = put_item(out, next, i, ns[i]);
-        i += 1;
+    pub fn put_line(&mut self, key: &[u8], n: u16)
+        requires { self.old.len + (length key.now + 6) ≤ length self.old.out.now }
+        ensures { Put self.old (line key.now (decimal n)) (length key.now + 6) self.new }
+    {
+        self.put_bytes(key);
+        self.put_number(n);
+        self.put_byte(b'\n');
     }
-    next
-}
 
-fn put_message(out: &mut [u8], at: usize, message: &[u8]) -> usize
-    requires { at + (9 + 6 * length message.now) ≤ length out.old }
-    ensures { Put out.old at (line (bytes "message=") (commas message.now)) (9 + 6 * length message.now)
-        out.new result }
-{
-    let from = put_bytes(out, at, b"message=");
-    let end = put_numbers(out, from, message);
-    put_byte(out, end, b'\n')
-}
-
-// A line for each of the `count` messages, k symbols each.
-pub fn put_messages(out: &mut [u8], at: usize, count: usize, k: usize, messages: &[u8]) -> usize
-    requires { (at + count * (9 + 6 * k) ≤ length out.old) × (count * k ≤ length messages.now) }
-    ensures { Put out.old at (message_lines count k messages.now) (count * (9 + 6 * k)) out.new result }
-{
-    let mut next = at;
-    let mut i: usize = 0;
-    while i < count {
-        let from = i * k;
-        let to = from + k;
-        next = put_message(out, next, &messages[from..to]);
-        i += 1;
+    fn put_numbers(&mut self, ns: &[u8])
+        requires { self.old.len + 6 * length ns.now ≤ length self.old.out.now }
+        ensures { Put self.old (commas ns.now) (6 * length ns.now) self.new }
+    {
+        for (i, n) in ns.iter().enumerate() {
+            if 0 < i {
+                self.put_byte(b',');
+            }
+            self.put_number(u16::from(*n));
+        }
     }
-    next
+
+    fn put_message(&mut self, message: &[u8])
+        requires { self.old.len + (9 + 6 * length message.now) ≤ length self.old.out.now }
+        ensures { Put self.old (line (bytes "message=") (commas message.now)) (9 + 6 * length message.now) self.new }
+    {
+        self.put_bytes(b"message=");
+        self.put_numbers(message);
+        self.put_byte(b'\n');
+    }
+
+    // A line for each of the `count` messages, k symbols each.
+    pub fn put_messages(&mut self, count: usize, k: usize, messages: &[u8])
+        requires room { self.old.len + count * (9 + 6 * k) ≤ length self.old.out.now }
+        requires there { count * k ≤ length messages.now }
+        ensures { Put self.old (message_lines count k messages.now) (count * (9 + 6 * k)) self.new }
+    {
+        for i in 0..count {
+            let from = i * k;
+            self.put_message(&messages[from..from + k]);
+        }
+    }
 }

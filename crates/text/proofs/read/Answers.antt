@@ -1,169 +1,130 @@
--- `text::read` meets its contract. Every reading of the text has the lines that were taken where they were taken, so where the next line is
--- refused there is no reading; and the seven lines together are one.
-use mathlib.Core.Path.{◌≡◌, sym, ap, subst}
-use mathlib.Core.Bool.{true}
-use mathlib.Core.List.{List}
-use Prim.Native.Nat.{ℕ}
-use native.Mathlib.Omega.{arith}
-use borrow.Author.Tests.{not-true, not-false}
-use lib.ListN.{length, take, drop, length-drop, drop_of_length-le}
-use Rattle.text.specs.Lines.{bytes}
-use Rattle.text.specs.Requests.{Number, Optional, FewNumbers, Line, Lines, Meaning, lines, Readable, HasRead}
+-- `text::read` meets its contract. Every reading of the text has the lines that were taken, so where the next line or a value is refused there is
+-- none; and the seven lines, with what their values mean, are one.
+use Rattle.std.proofs.Common.{◌≡◌, List, [], ℕ, subst, rules}
+use Rattle.std.proofs.lemmas.List.{nil_from_length}
+use borrow.Author.Tests.{tests}
+use Rattle.text.specs.Requests.{Number, Optional, FewNumbers, Meaning, Readable}
 use Rattle.text.specs.Requests.HasRead.{readable, unreadable}
-use Rattle.text.specs.Reading.{Taken}
-use Rattle.text.proofs.Grammar.{number_plain, optional_plain, listed_plain, line-map}
-use Rattle.text.proofs.StandingLines.{passes, refuses, goes_on}
+use Rattle.text.proofs.Grammar.{number_plain, optional_plain, listed_plain}
+use Rattle.text.proofs.Numbers.{optional-same}
+use Rattle.text.proofs.StandingLines.{any_line, means, goes_on, stands_line}
+use Rattle.text.proofs.read.Goals.{In_ok-word}
 use Rattle.text.proofs.read.Goals as goal
 
--- every reading of the text goes on at `next`, with all but the first i lines
-abbrev Goes : List ℕ → ℕ → ℕ → Type 0
-Goes text i next = (r : Meaning) → Readable text r → Lines (drop i (lines r)) (drop next text)
+pub returns-in_err-field : goal.returns-in_err-field
+returns-in_err-field c = rw c.from_residual.ensures (unreadable (λ r p. c.in_err-field.ensures (any_line p)))
 
--- what a line that was taken makes of that, for each of the seven
-after_field : {text : List ℕ} {v next : ℕ} → Taken (bytes "field=") Number text 0 v next → Goes text 1 next
-after_field t r p = (passes number_plain t p).1
+pub returns-in_err-k : goal.returns-in_err-k
+returns-in_err-k c =
+    rw c.from_residual-in_err-k.ensures (unreadable (λ r p. c.in_err-k.ensures (any_line (goes_on number_plain c.in_ok-field.ensures p))))
 
-after_k : {text : List ℕ} {at v next : ℕ} → Taken (bytes "k=") Number text at v next → Goes text 1 at → Goes text 2 next
-after_k t g r p = (passes number_plain t (g r p)).1
+pub returns-in_err-m : goal.returns-in_err-m
+returns-in_err-m c =
+    rw c.from_residual-in_err-m.ensures (unreadable (λ r p. c.in_err-m.ensures (any_line
+    (goes_on number_plain c.in_ok-k.ensures (goes_on number_plain c.in_ok-field.ensures p)))))
 
--- the value of `m=`, by which an empty `l=` is read
-m_read : {text : List ℕ} {at v next : ℕ} → Taken (bytes "m=") (Optional 1) text at v next → Goes text 2 at
-    → (r : Meaning) → Readable text r → (v ≡ r.m) × Lines (drop 3 (lines r)) (drop next text)
-m_read t g r p = passes (optional_plain 1) t (g r p)
+pub returns-in_err-l : goal.returns-in_err-l
+returns-in_err-l c =
+    rw c.from_residual-in_err-l.ensures (unreadable (λ r p. c.in_err-l.ensures (any_line (goes_on (optional_plain 1) c.in_ok-m.ensures
+    (goes_on number_plain c.in_ok-k.ensures (goes_on number_plain c.in_ok-field.ensures p))))))
+
+pub returns-in_err-t : goal.returns-in_err-t
+returns-in_err-t c =
+    rw c.from_residual-in_err-t.ensures (unreadable (λ r p. c.in_err-t.ensures (any_line (goes_on (optional_plain r.m) c.in_ok-l.ensures
+    (goes_on (optional_plain 1) c.in_ok-m.ensures (goes_on number_plain c.in_ok-k.ensures (goes_on number_plain c.in_ok-field.ensures p)))))))
+
+pub returns-in_err-points : goal.returns-in_err-points
+returns-in_err-points c =
+    rw c.from_residual-in_err-points.ensures (unreadable (λ r p. c.in_err-points.ensures (any_line (goes_on number_plain c.in_ok-t.ensures
+    (goes_on (optional_plain r.m) c.in_ok-l.ensures (goes_on (optional_plain 1) c.in_ok-m.ensures (goes_on number_plain c.in_ok-k.ensures
+    (goes_on number_plain c.in_ok-field.ensures p))))))))
+
+pub returns-in_err-word : goal.returns-in_err-word
+returns-in_err-word c =
+    rw c.from_residual-in_err-word.ensures (unreadable (λ r p. c.in_err-word.ensures (any_line (goes_on listed_plain c.in_ok-points.ensures
+    (goes_on number_plain c.in_ok-t.ensures (goes_on (optional_plain r.m) c.in_ok-l.ensures (goes_on (optional_plain 1) c.in_ok-m.ensures
+    (goes_on number_plain c.in_ok-k.ensures (goes_on number_plain c.in_ok-field.ensures p)))))))))
+
+-- the values of the seven lines mean r
+record Reads (field k m l t points word rest : List ℕ) (r : Meaning) : Type 0 where
+  field_is : Number field r.field
+  k_is : Number k r.k
+  m_is : Optional 1 m r.m
+  l_is : Optional r.m l r.l
+  t_is : Number t r.t
+  points_are : FewNumbers points r.points
+  word_is : FewNumbers word r.word
+  ends : rest ≡ []
+
+reads : (c : In_ok-word) (r : Meaning) → Readable c.args.text.now r
+    → Reads c.in_ok-field.field.now c.in_ok-k.k.now c.in_ok-m.m.now c.in_ok-l.l.now c.in_ok-t.t.now c.in_ok-points.points.now c.in_ok-word.word.now
+    c.in_ok-word.rest.now r
+reads c r field =
+    let k = goes_on number_plain c.in_ok-field.ensures field in
+    let m = goes_on number_plain c.in_ok-k.ensures k in
+    let l = goes_on (optional_plain 1) c.in_ok-m.ensures m in
+    let t = goes_on (optional_plain r.m) c.in_ok-l.ensures l in
+    let points = goes_on number_plain c.in_ok-t.ensures t in
+    let word = goes_on listed_plain c.in_ok-points.ensures points in
+    record {
+      field_is = means number_plain c.in_ok-field.ensures field;
+      k_is = means number_plain c.in_ok-k.ensures k;
+      m_is = means (optional_plain 1) c.in_ok-m.ensures m;
+      l_is = means (optional_plain r.m) c.in_ok-l.ensures l;
+      t_is = means number_plain c.in_ok-t.ensures t;
+      points_are = means listed_plain c.in_ok-points.ensures points;
+      word_is = means listed_plain c.in_ok-word.ensures word;
+      ends = goes_on listed_plain c.in_ok-word.ensures word;
+    }
+
+pub returns-then-not-is_empty : goal.returns-then-not-is_empty
+returns-then-not-is_empty c =
+    unreadable (λ r p. let ends = (reads (goal.at.returns-then-not-is_empty c).In_ok-word r p).ends in search (rules, tests))
+
+pub returns-in_err-field-2 : goal.returns-in_err-field-2
+returns-in_err-field-2 c =
+    rw c.from_residual-in_err-field-2.ensures (unreadable (λ r p. c.in_err-field-2.ensures r.field
+    (reads (goal.at.returns-in_err-field-2 c).In_ok-word r p).field_is))
+
+pub returns-in_err-k-2 : goal.returns-in_err-k-2
+returns-in_err-k-2 c =
+    rw c.from_residual-in_err-k-2.ensures (unreadable (λ r p. c.in_err-k-2.ensures r.k (reads (goal.at.returns-in_err-k-2 c).In_ok-word r p).k_is))
+
+pub returns-in_err-m-2 : goal.returns-in_err-m-2
+returns-in_err-m-2 c =
+    rw c.from_residual-in_err-m-2.ensures (unreadable (λ r p. c.in_err-m-2.ensures r.m (reads (goal.at.returns-in_err-m-2 c).In_ok-word r p).m_is))
 
 -- an empty `l=` means the value of `m=`, which is r's
-abbrev LineL : List ℕ → ℕ → ℕ → Type 0
-LineL text m next = (r : Meaning) → Readable text r → Line (bytes "l=") (λ v. Optional m v r.l) (Lines (drop 4 (lines r))) (drop next text)
+pub returns-in_err-l-2 : goal.returns-in_err-l-2
+returns-in_err-l-2 c =
+    rw c.from_residual-in_err-l-2.ensures (unreadable (λ r p. let h = reads (goal.at.returns-in_err-l-2 c).In_ok-word r p in
+    c.in_err-l-2.ensures r.l (subst (λ m. Optional m c.in_ok-l.l.now r.l) (optional-same 1 h.m_is c.in_ok-m-2.ensures) h.l_is)))
 
-after_m : {text : List ℕ} {at v next : ℕ} → Taken (bytes "m=") (Optional 1) text at v next → Goes text 2 at → LineL text v next
-after_m t g r p =
-    let q = m_read t g r p in
-    line-map (λ v. subst (λ x. Optional x v r.l) (sym q.0)) (λ rest h. h) q.1
+pub returns-in_err-t-2 : goal.returns-in_err-t-2
+returns-in_err-t-2 c =
+    rw c.from_residual-in_err-t-2.ensures (unreadable (λ r p. c.in_err-t-2.ensures r.t (reads (goal.at.returns-in_err-t-2 c).In_ok-word r p).t_is))
 
-after_l : {text : List ℕ} {at m v next : ℕ} → Taken (bytes "l=") (Optional m) text at v next → LineL text m at → Goes text 4 next
-after_l {m = m} t g r p = (passes (optional_plain m) t (g r p)).1
+pub returns-in_err-points-2 : goal.returns-in_err-points-2
+returns-in_err-points-2 c =
+    rw c.from_residual-in_err-points-2.ensures (unreadable (λ r p. c.in_err-points-2.ensures (record { items = r.points })
+    (reads (goal.at.returns-in_err-points-2 c).In_ok-word r p).points_are))
 
-after_t : {text : List ℕ} {at v next : ℕ} → Taken (bytes "t=") Number text at v next → Goes text 4 at → Goes text 5 next
-after_t t g r p = (passes number_plain t (g r p)).1
-
-after_points : {text vs : List ℕ} {at next : ℕ} → Taken (bytes "points=") FewNumbers text at vs next → Goes text 5 at → Goes text 6 next
-after_points t g r p = (passes listed_plain t (g r p)).1
-
-after_word : {text vs : List ℕ} {at next : ℕ} → Taken (bytes "word=") FewNumbers text at vs next → Goes text 6 at → Goes text 7 next
-after_word t g r p = (passes listed_plain t (g r p)).1
-
-pub returns-then-not-field : goal.returns-then-not-field
-returns-then-not-field c =
-    rw c.unread.ensures (unreadable (λ r p. refuses r.field c.number_line-field.ensures (not-true _ c.if-not-field.true) p))
-
-pub number_line-k-requires : goal.number_line-k-requires
-number_line-k-requires c = (c.number_line-field.ensures.holds (not-false _ c.if-not-field.false)).inside
-
-pub returns-then-not-k : goal.returns-then-not-k
-returns-then-not-k c =
-    let field = after_field (c.number_line-field.ensures.holds (not-false _ c.if-not-field.false)) in
-    rw c.unread-then-not-k.ensures (unreadable (λ r p. refuses r.k c.number_line-k.ensures (not-true _ c.if-not-k.true) (field r p)))
-
-pub optional_line-m-requires : goal.optional_line-m-requires
-optional_line-m-requires c = (c.number_line-k.ensures.holds (not-false _ c.if-not-k.false)).inside
-
-pub returns-then-not-m : goal.returns-then-not-m
-returns-then-not-m c =
-    let field = after_field (c.number_line-field.ensures.holds (not-false _ c.if-not-field.false)) in
-    let k = after_k (c.number_line-k.ensures.holds (not-false _ c.if-not-k.false)) field in
-    rw c.unread-then-not-m.ensures (unreadable (λ r p. refuses r.m c.optional_line-m.ensures (not-true _ c.if-not-m.true) (k r p)))
-
-pub optional_line-l-requires : goal.optional_line-l-requires
-optional_line-l-requires c = (c.optional_line-m.ensures.holds (not-false _ c.if-not-m.false)).inside
-
-pub returns-then-not-l : goal.returns-then-not-l
-returns-then-not-l c =
-    let field = after_field (c.number_line-field.ensures.holds (not-false _ c.if-not-field.false)) in
-    let k = after_k (c.number_line-k.ensures.holds (not-false _ c.if-not-k.false)) field in
-    let m = after_m (c.optional_line-m.ensures.holds (not-false _ c.if-not-m.false)) k in
-    rw c.unread-then-not-l.ensures (unreadable (λ r p. refuses r.l c.optional_line-l.ensures (not-true _ c.if-not-l.true) (m r p)))
-
-pub number_line-t-requires : goal.number_line-t-requires
-number_line-t-requires c = (c.optional_line-l.ensures.holds (not-false _ c.if-not-l.false)).inside
-
-pub returns-then-not-t : goal.returns-then-not-t
-returns-then-not-t c =
-    let field = after_field (c.number_line-field.ensures.holds (not-false _ c.if-not-field.false)) in
-    let k = after_k (c.number_line-k.ensures.holds (not-false _ c.if-not-k.false)) field in
-    let m = after_m (c.optional_line-m.ensures.holds (not-false _ c.if-not-m.false)) k in
-    let l = after_l (c.optional_line-l.ensures.holds (not-false _ c.if-not-l.false)) m in
-    rw c.unread-then-not-t.ensures (unreadable (λ r p. refuses r.t c.number_line-t.ensures (not-true _ c.if-not-t.true) (l r p)))
-
-pub numbers_line-points-requires : goal.numbers_line-points-requires
-numbers_line-points-requires c = (c.number_line-t.ensures.holds (not-false _ c.if-not-t.false)).inside
-
-pub returns-then-not-points : goal.returns-then-not-points
-returns-then-not-points c =
-    let field = after_field (c.number_line-field.ensures.holds (not-false _ c.if-not-field.false)) in
-    let k = after_k (c.number_line-k.ensures.holds (not-false _ c.if-not-k.false)) field in
-    let m = after_m (c.optional_line-m.ensures.holds (not-false _ c.if-not-m.false)) k in
-    let l = after_l (c.optional_line-l.ensures.holds (not-false _ c.if-not-l.false)) m in
-    let t = after_t (c.number_line-t.ensures.holds (not-false _ c.if-not-t.false)) l in
-    rw c.unread-then-not-points.ensures (unreadable (λ r p. refuses r.points c.numbers_line-points.ensures.takes
-    (not-true _ c.if-not-points.true) (t r p)))
-
-pub numbers_line-word-requires : goal.numbers_line-word-requires
-numbers_line-word-requires c = (c.numbers_line-points.ensures.takes.holds (not-false _ c.if-not-points.false)).inside
-
-pub returns-then-not-word : goal.returns-then-not-word
-returns-then-not-word c =
-    let field = after_field (c.number_line-field.ensures.holds (not-false _ c.if-not-field.false)) in
-    let k = after_k (c.number_line-k.ensures.holds (not-false _ c.if-not-k.false)) field in
-    let m = after_m (c.optional_line-m.ensures.holds (not-false _ c.if-not-m.false)) k in
-    let l = after_l (c.optional_line-l.ensures.holds (not-false _ c.if-not-l.false)) m in
-    let t = after_t (c.number_line-t.ensures.holds (not-false _ c.if-not-t.false)) l in
-    let points = after_points (c.numbers_line-points.ensures.takes.holds (not-false _ c.if-not-points.false)) t in
-    rw c.unread-then-not-word.ensures (unreadable (λ r p. refuses r.word c.numbers_line-word.ensures.takes (not-true _ c.if-not-word.true)
-    (points r p)))
-
-pub returns-then-word-text : goal.returns-then-word-text
-returns-then-word-text c =
-    let field = after_field (c.number_line-field.ensures.holds (not-false _ c.if-not-field.false)) in
-    let k = after_k (c.number_line-k.ensures.holds (not-false _ c.if-not-k.false)) field in
-    let m = after_m (c.optional_line-m.ensures.holds (not-false _ c.if-not-m.false)) k in
-    let l = after_l (c.optional_line-l.ensures.holds (not-false _ c.if-not-l.false)) m in
-    let t = after_t (c.number_line-t.ensures.holds (not-false _ c.if-not-t.false)) l in
-    let points = after_points (c.numbers_line-points.ensures.takes.holds (not-false _ c.if-not-points.false)) t in
-    let word = after_word (c.numbers_line-word.ensures.takes.holds (not-false _ c.if-not-word.false)) points in
-    rw c.unread-then-word-text.ensures (unreadable (λ r p. omega (arith, c.if-word-text.true, simp length-drop at (ap length (word r p)))))
+pub returns-in_err-word-2 : goal.returns-in_err-word-2
+returns-in_err-word-2 c =
+    rw c.from_residual-in_err-word-2.ensures (unreadable (λ r p. c.in_err-word-2.ensures (record { items = r.word })
+    (reads (goal.at.returns-in_err-word-2 c).In_ok-word r p).word_is))
 
 pub returns : goal.returns
 returns c =
-    let ps = c.numbers_line-points.ensures.held (not-false _ c.if-not-points.false) in
-    let ws = c.numbers_line-word.ensures.held (not-false _ c.if-not-word.false) in
-    let points : List ℕ = take c.numbers_line-points.result.count c.numbers_line-points.result.items in
-    let word : List ℕ = take c.numbers_line-word.result.count c.numbers_line-word.result.items in
-    let meaning : Meaning =
-    record {
-      field = c.number_line-field.result.value;
-      k = c.number_line-k.result.value;
-      m = c.optional_line-m.result.value;
-      l = c.optional_line-l.result.value;
-      t = c.number_line-t.result.value;
-      points = points;
-      word = word;
-    } in
-    let whole : Readable c.args.text.now meaning =
-    goes_on (c.number_line-field.ensures.holds (not-false _ c.if-not-field.false)) (goes_on (c.number_line-k.ensures.holds
-    (not-false _ c.if-not-k.false)) (goes_on (c.optional_line-m.ensures.holds (not-false _ c.if-not-m.false)) (goes_on
-    (c.optional_line-l.ensures.holds (not-false _ c.if-not-l.false)) (goes_on (c.number_line-t.ensures.holds
-    (not-false _ c.if-not-t.false)) (goes_on (c.numbers_line-points.ensures.takes.holds (not-false _ c.if-not-points.false))
-    (goes_on (c.numbers_line-word.ensures.takes.holds (not-false _ c.if-not-word.false))
-    (drop_of_length-le c.args.text.now c.if-word-text.false))))))) in
-    subst (HasRead c.args.text.now) (λ i. record {
-      ok = true;
-      field = meaning.field;
-      k = meaning.k;
-      m = meaning.m;
-      l = meaning.l;
-      t = meaning.t;
-      n = sym ps.count_is i;
-      points = sym ps.items_are i;
-      count = sym ws.count_is i;
-      word = sym ws.items_are i;
-    }) (readable meaning whole)
+    readable (record {
+      field = c.in_ok-field-2.field;
+      k = c.in_ok-k-2.k;
+      m = c.in_ok-m-2.m;
+      l = c.in_ok-l-2.l;
+      t = c.in_ok-t-2.t;
+      points = c.in_ok-points-2.points.items;
+      word = c.in_ok-word-2.word.items;
+    }) (stands_line c.in_ok-field.ensures c.in_ok-field-2.ensures (stands_line c.in_ok-k.ensures c.in_ok-k-2.ensures
+    (stands_line c.in_ok-m.ensures c.in_ok-m-2.ensures (stands_line c.in_ok-l.ensures c.in_ok-l-2.ensures
+    (stands_line c.in_ok-t.ensures c.in_ok-t-2.ensures (stands_line c.in_ok-points.ensures c.in_ok-points-2.ensures
+    (stands_line c.in_ok-word.ensures c.in_ok-word-2.ensures (nil_from_length c.in_ok-word.rest.now (search (rules, tests))))))))))

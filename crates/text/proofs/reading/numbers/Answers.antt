@@ -1,27 +1,43 @@
 -- `text::reading::numbers` meets its contract. The loop's invariant, `SoFar`: the numbers read so far and those of the rest are those of the whole.
-use native.Mathlib.Omega.{arith}
-use borrow.Author.Tests.{not-true, not-false}
-use Rattle.text.proofs.Items.{none_yet, more_items, last_item, no_item, too-many}
+use Rattle.std.proofs.Common.{◌≡◌, ◌≤◌, ◌<◌, ◌++◌, [], ◌∷◌, false, length, rules}
+use borrow.Author.Tests.{tests}
+use Rattle.std.proofs.lemmas.Fn.{always_returns_same}
+use Rattle.poly.specs.Limits.{field_most}
+use Rattle.text.proofs.Items.{SoFar, Part, none_yet, next_part, more_items, no_item, too-many, all_read}
+use Rattle.text.proofs.reading.numbers.Goals.{In-Some}
 use Rattle.text.proofs.reading.numbers.Goals as goal
 
-pub loop-count-init : goal.loop-count-init
-loop-count-init c = none_yet c.args.text.now
+-- what is read next
+part : (c : In-Some) → Part c.loop-part.part-iterator.rest.now c.in-Some.part.now c.next.new.self.done c.next.new.self.rest.now
+part c =
+    next_part c.loop-part.part-iterator c.next.new.self c.in-Some.part c.in-Some.ensures.steps
+    (always_returns_same _ _ _ (λ a r f k. search (rules, tests)))
 
-pub slice_bounds-number-count : goal.slice_bounds-number-count
-slice_bounds-number-count c = omega (arith, c.seek-to.ensures)
+so_far : (c : In-Some) → SoFar c.args.text.now c.loop-part.items.items false c.loop-part.part-iterator.rest.now
+so_far c = rw c.in-Some.ensures.steps.0 at c.loop-part.invariant
 
-pub returns-then-not-first : goal.returns-then-not-first
-returns-then-not-first c = no_item c.loop-count.invariant c.seek-to.ensures (c.number-first.ensures.fails (not-true _ c.if-not-first.true))
+pub loop-part-init : goal.loop-part-init
+loop-part-init c =
+    let split = c.split-part-items.ensures in
+    rw (c.into_iter-part-iterator.ensures.into_iter_gives, split.rest, split.done, c.new-items.ensures) (none_yet c.args.text.now)
 
-pub returns-then-to-text : goal.returns-then-to-text
-returns-then-to-text c =
-    last_item c.loop-count.invariant c.seek-to.ensures c.number-first.result.value c.loop-count-test.true (omega arith)
-    (c.number-first.ensures.holds (not-false _ c.if-not-first.false))
+pub loop-part-preserved : goal.loop-part-preserved
+loop-part-preserved c =
+    let s = (goal.at.loop-part-preserved c).In-Some in
+    let room : length c.loop-part.items.items < field_most = search (rules, tests) in
+    let pushed : c.try_push.new.self.items ≡ c.loop-part.items.items ++ c.in_ok-number.field-0 ∷ [] = search (rules, tests) in
+    rw pushed (more_items (so_far s) (part s) c.in_ok-number.field-0 room c.in_ok-number.ensures)
 
-pub loop-count-preserved : goal.loop-count-preserved
-loop-count-preserved c =
-    more_items c.loop-count.invariant c.seek-to.ensures c.number-first.result.value c.loop-count-test.true (omega arith)
-    (c.number-first.ensures.holds (not-false _ c.if-not-first.false))
+pub returns-in_err-number : goal.returns-in_err-number
+returns-in_err-number c =
+    let s = (goal.at.returns-in_err-number c).In-Some in
+    rw c.from_residual.ensures (λ v. no_item (so_far s) (part s) c.in_err-number.ensures v.items)
+
+pub returns-in_err-ok : goal.returns-in_err-ok
+returns-in_err-ok c =
+    let s = (goal.at.returns-in_err-ok c).In-Some in
+    let full : field_most ≤ length c.loop-part.items.items = search (rules, tests) in
+    rw c.from_residual-in_err-ok.ensures (λ v. too-many (so_far s) full v.items)
 
 pub returns : goal.returns
-returns c = too-many c.loop-count.invariant c.loop-count-test.false
+returns c = all_read (rw c.in-None.ensures.steps.0 at c.loop-part.invariant)

@@ -1,17 +1,11 @@
 -- `text::reading::optional` meets its contract: an empty text means `other`, and any other text is a number or nothing.
-use mathlib.Core.Bool.{true≢false}
-use Rattle.text.specs.Requests.Optional.{given}
-use Rattle.text.proofs.Numbers.{optional-empty, optional-given}
+use Rattle.std.proofs.Common.{rules}
+use borrow.Author.Tests.{tests}
+use Rattle.text.proofs.Numbers.{optional-empty, optional_number}
 use Rattle.text.proofs.reading.optional.Goals as goal
 
-pub returns-then-text-eq0 : goal.returns-then-text-eq0
-returns-then-text-eq0 c =
-    let a = c.args in
-    record { holds = λ _. optional-empty a.text.now a.other c.if-text-eq0.true; fails = λ e. absurd (true≢false e) }
+pub returns-then-is_empty : goal.returns-then-is_empty
+returns-then-is_empty c = optional-empty c.args.text.now c.args.other (search (rules, tests))
 
 pub returns : goal.returns
-returns c =
-    record {
-      holds = λ e. given (c.number.ensures.holds e);
-      fails = λ e n r. c.number.ensures.fails e n (optional-given c.if-text-eq0.false r);
-    }
+returns c = optional_number c.args.text.now c.args.other c.number.result (search (rules, tests)) c.number.ensures
