@@ -17,7 +17,7 @@ use Rattle.poly.proofs.TableLaws.{first_determined}
 use Rattle.curves.proofs.Least.{weight_unique}
 use Rattle.near.specs.Lists.{Task, polynomial, In, agreements, Wanted}
 use Rattle.near.specs.Job.{task_of, list_table, refusal, RuleUpdates, Answers, HasListed}
-use Rattle.near.specs.declared.Near.{Near}
+use Rattle.near.specs.Job.{Near}
 use Rattle.near.proofs.Determined.{updates_unique, near-same}
 use Rattle.near.proofs.Agreements.{agrees?, agreements-zero, agreements-suc}
 use Rattle.figures.specs.Figures.{three, at_three, word_0_0_1, ListGives}

@@ -13,18 +13,13 @@ use Rattle.field.proofs.SixteenLaws.{sixteen}
 use Rattle.poly.specs.Table.{First, BadCount, BadHeights, TooLarge}
 use Rattle.poly.specs.Encode.{encode_table}
 use Rattle.poly.specs.Limits.{working_room}
-use Rattle.poly.proofs.TableLaws.{first_determined, first-goes, not_unlisted, none-large, good-count, good-degree}
+use Rattle.poly.proofs.TableLaws.{◌⊳◌, first_determined, first-goes, not_unlisted, none-large, good-count, good-degree}
 use Rattle.rows.specs.Jobs.{start_table, request_table}
 use Rattle.rows.proofs.Accepted.{Accepted}
 use Rattle.near.specs.Job.{list_table}
-use Rattle.near.specs.declared.Near.{Near}
+use Rattle.near.specs.Job.{Near}
 use Rattle.figures.specs.Figures.{zero_to_15, EncodeGives, Refused}
 use Rattle.figures.proofs.Computed.{seven}
-
--- a line that does not apply, and what the rest of the table gives
-infixr 20 ◌⊳◌
-pub ◌⊳◌ : {Applies Given Rest : Type 0} → (Applies → ⊥) → Rest → (Applies × Given) ⊎ ((Applies → ⊥) × Rest)
-◌⊳◌ not rest = inr (not, rest)
 
 module _ {p : ℕ} {points word : List ℕ} {k m l : ℕ} {lent : List ℕ} (a : Accepted p points word k m l lent) where
   good-heights : BadHeights m l → ⊥

@@ -15,12 +15,12 @@ use Rattle.field.proofs.Tests.{all, all-at}
 use Rattle.poly.specs.Polynomials.{value}
 use Rattle.poly.specs.Table.{First}
 use Rattle.poly.specs.Encode.{encode_table, value_at}
-use Rattle.poly.proofs.TableLaws.{first_determined, not_unlisted, none-large, good-count, good-degree}
+use Rattle.poly.proofs.TableLaws.{◌⊳◌, first_determined, not_unlisted, none-large, good-count, good-degree}
 use Rattle.rows.specs.Jobs.{start_table}
 use Rattle.figures.specs.Figures.{six, zero_to_15, Encodes, Calls, three, at_three, word_0_0_1, Figures}
 use Rattle.figures.proofs.Computed.{seven, small, distinct, all-below, all-different, at-three}
 use Rattle.figures.proofs.Calls.{calls_give, calls-lightest}
-use Rattle.figures.proofs.Numbers.{◌⊳◌, start-goes, p_9, n_2, k-n, l_9, n_17, symbol_16}
+use Rattle.figures.proofs.Numbers.{start-goes, p_9, n_2, k-n, l_9, n_17, symbol_16}
 use Rattle.figures.proofs.Word123.{worked_1_2_3}
 use Rattle.figures.proofs.Word001.{h-is, formula-is-one, worked_0_0_1}
 use Rattle.figures.proofs.Word000.{worked_0_0_0}

@@ -23,11 +23,9 @@ use Rattle.curves.specs.Finish.{Lightest}
 use Rattle.rows.specs.Bytes.{curve_bytes, rows_bytes, rows_of, HoldsCurve}
 use Rattle.rows.specs.Jobs.{HasStarted, HasTurned, HasFinished}
 use Rattle.rows.specs.Demands.{Request, ring_for, shape_for, note_for, updates_bound}
-use Rattle.rows.specs.declared.Started.{Started}
-use Rattle.rows.specs.declared.Turned.{Turned}
-use Rattle.rows.specs.declared.Finished.{Finished}
+use Rattle.rows.specs.Jobs.{Started, Turned, Finished}
 use Rattle.near.specs.Job.{refusal, HasListed}
-use Rattle.near.specs.declared.Near.{Near}
+use Rattle.near.specs.Job.{Near}
 use Rattle.departures.specs.Departures.{InRange, departure_symbols, time_bytes}
 use Rattle.departures.specs.Jobs.{WritesDeparture, ShowsDeparture}
 use Rattle.departures.specs.declared.Departure.{Departure}

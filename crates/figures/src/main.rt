@@ -5,48 +5,32 @@
 use departures::Departure;
 use departures::limits::DEPARTURE_SYMBOLS;
 use poly::limits::{ALLOWANCE_MOST, WORKING_ROOM};
+use rows::Request;
 use std::io;
 
-fn wide(x: u8) -> u64 {
-    x as u64
-}
-
-fn spaced(rt: &impl Print, number: u64) -> io::Result<()> {
-    print!(rt; " {number}")
-}
-
-// A name, and the numbers after it.
-fn show(rt: &impl Print, name: &[u8], numbers: &[u8]) -> io::Result<()> {
-    rt.write_all(name)?;
+// A name, and the numbers after it. replay prints such numbers for itself: the two share no crate for a few lines.
+fn show(rt: &impl Print, name: &str, numbers: &[u8]) -> io::Result<()> {
+    rt.print(name)?;
     for number in numbers {
-        spaced(rt, wide(*number))?;
+        print!(rt; " {number}")?;
     }
     rt.println("")
 }
 
-fn show_updates(rt: &impl Print, updates: u16) -> io::Result<()> {
-    println!(rt; "  updates {updates}")
+fn show_departure(rt: &impl Print, name: &str, departure: Departure) -> io::Result<()> {
+    let Departure { boat, day, minute } = departure;
+    println!(rt; "{name} {boat} {day} {minute}")
 }
 
-fn show_departure(rt: &impl Print, name: &[u8], departure: Departure) -> io::Result<()> {
-    rt.write_all(name)?;
-    spaced(rt, wide(departure.boat))?;
-    spaced(rt, departure.day as u64)?;
-    spaced(rt, departure.minute as u64)?;
-    rt.println("")
-}
-
-fn last_digit(number: u32) -> u8 {
-    (number % 10) as u8
-}
-
-// The last digits of a number, as many as there is room for.
-fn digits(number: u32, out: &mut [u8]) {
+// The last N digits of a number, as numbers: formats have digits as text alone.
+fn digits<const N: usize>(number: u32) -> [u8; N] {
+    let mut digits = [0; N];
     let mut rest = number;
-    for digit in out.iter_mut().rev() {
-        *digit = last_digit(rest);
+    for digit in digits.iter_mut().rev() {
+        *digit = (rest % 10) as u8;
         rest /= 10;
     }
+    digits
 }
 
 fn encode(
@@ -56,55 +40,43 @@ fn encode(
     message: &[u8],
     word: &mut [u8],
 ) -> io::Result<()> {
-    let number = poly::encode(p, points, message, word);
-    show(rt, b"  message", message)?;
-    show(rt, b"  encode", &[number])?;
-    show(rt, b"  word", word)
+    let encoded = poly::encode(p, points, message, word);
+    show(rt, "  message", message)?;
+    show(rt, "  encode", &[poly::outcome(&encoded)])?;
+    show(rt, "  word", word)
 }
 
 // Start, a turn, finish.
-fn interpolate(
-    rt: &impl Print,
-    p: u8,
-    points: &[u8],
-    word: &[u8],
-    k: u8,
-    m: u8,
-    l: u8,
-    lent: &mut [u8],
-) -> io::Result<()> {
+fn interpolate(rt: &impl Print, request: &Request, lent: &mut [u8]) -> io::Result<()> {
     let mut curve = [0u8; 60];
-    let started = rows::start(p, points, word, k, m, l, lent);
-    let note = started.note;
+    let started = request.start(lent);
+    let note = started.unwrap_or_default();
     let turned = note.turn(lent, ALLOWANCE_MOST);
     let finished = rows::finish(turned.note, lent, &mut curve);
     show(
         rt,
-        b"  start turn finish",
-        &[started.number, turned.number, finished.number],
+        "  start turn finish",
+        &[
+            poly::outcome(&started),
+            poly::outcome(&turned.outcome),
+            poly::outcome(&finished),
+        ],
     )?;
-    show_updates(rt, turned.updates)?;
-    show(rt, b"  weight height", &[finished.weight, finished.height])?;
-    show(rt, b"  curve", &curve)
+    println!(rt; "  updates {}", turned.updates)?;
+    let light = finished.unwrap_or_default();
+    show(rt, "  weight height", &[light.weight, light.height])?;
+    show(rt, "  curve", &curve)
 }
 
-fn list(
-    rt: &impl Print,
-    p: u8,
-    points: &[u8],
-    word: &[u8],
-    k: u8,
-    m: u8,
-    l: u8,
-    t: u8,
-) -> io::Result<()> {
+fn list(rt: &impl Print, request: &Request, t: u8) -> io::Result<()> {
     let mut room = [0u8; WORKING_ROOM];
     let mut messages = [0u8; 9];
-    let near = near::list(p, points, word, k, m, l, t, &mut room, &mut messages);
-    show(rt, b"  list", &[near.number])?;
-    show_updates(rt, near.updates)?;
-    show(rt, b"  weight count", &[near.weight, near.count])?;
-    show(rt, b"  messages", &messages)
+    let listed = near::list(request, t, &mut room, &mut messages);
+    let near = listed.unwrap_or_default();
+    show(rt, "  list", &[poly::outcome(&listed)])?;
+    println!(rt; "  updates {}", near.updates)?;
+    show(rt, "  weight count", &[near.weight, near.count])?;
+    show(rt, "  messages", &messages)
 }
 
 // A message and a received word at the points 1, 2, 3.
@@ -119,35 +91,47 @@ fn three(
     t: u8,
 ) -> io::Result<()> {
     let points = [1u8, 2, 3];
-    let mut sent = [0u8; 2];
-    digits(message, &mut sent);
-    let mut received = [0u8; 3];
-    digits(word, &mut received);
+    let sent: [u8; 2] = digits(message);
+    let received: [u8; 3] = digits(word);
     let mut lent = [0u8; 63];
     let mut encoded = [0u8; 6];
-    show(rt, b"p k m l t", &[p, k, m, l, t])?;
+    show(rt, "p k m l t", &[p, k, m, l, t])?;
     encode(rt, p, &points, &sent, &mut encoded)?;
-    show(rt, b"  received", &received)?;
-    interpolate(rt, p, &points, &received, k, m, l, &mut lent)?;
-    list(rt, p, &points, &received, k, m, l, t)
+    show(rt, "  received", &received)?;
+    let request = Request {
+        p,
+        points: &points,
+        word: &received,
+        k,
+        m,
+        l,
+    };
+    interpolate(rt, &request, &mut lent)?;
+    list(rt, &request, t)
 }
 
 // Example 19, where a message has three symbols, at the points 1 to 6. A byte less than the rows take is refused.
 fn example_19(rt: &impl Print, message: u32, t: u8) -> io::Result<()> {
     let points = [1u8, 2, 3, 4, 5, 6];
-    let mut sent = [0u8; 3];
-    digits(message, &mut sent);
-    let mut received = [0u8; 6];
-    digits(624442, &mut received);
+    let sent: [u8; 3] = digits(message);
+    let received: [u8; 6] = digits(624442);
     let mut lent = [0u8; 240];
     let mut less = [0u8; 239];
     let mut encoded = [0u8; 6];
-    show(rt, b"example 19, t", &[t])?;
+    show(rt, "example 19, t", &[t])?;
     encode(rt, 7, &points, &sent, &mut encoded)?;
-    show(rt, b"  received", &received)?;
-    interpolate(rt, 7, &points, &received, 3, 2, 3, &mut lent)?;
-    interpolate(rt, 7, &points, &received, 3, 2, 3, &mut less)?;
-    list(rt, 7, &points, &received, 3, 2, 3, t)
+    show(rt, "  received", &received)?;
+    let request = Request {
+        p: 7,
+        points: &points,
+        word: &received,
+        k: 3,
+        m: 2,
+        l: 3,
+    };
+    interpolate(rt, &request, &mut lent)?;
+    interpolate(rt, &request, &mut less)?;
+    list(rt, &request, t)
 }
 
 // A message of two symbols and a received word over the field of 16, with m = 1 and l = 2.
@@ -160,12 +144,20 @@ fn sixteen(
 ) -> io::Result<()> {
     let mut lent = [0u8; 162];
     let mut encoded = [0u8; 16];
-    show(rt, b"field 16, t", &[t])?;
-    show(rt, b"  points", points)?;
+    show(rt, "field 16, t", &[t])?;
+    show(rt, "  points", points)?;
     encode(rt, 16, points, message, &mut encoded)?;
-    show(rt, b"  received", received)?;
-    interpolate(rt, 16, points, received, 2, 1, 2, &mut lent)?;
-    list(rt, 16, points, received, 2, 1, 2, t)
+    show(rt, "  received", received)?;
+    let request = Request {
+        p: 16,
+        points,
+        word: received,
+        k: 2,
+        m: 1,
+        l: 2,
+    };
+    interpolate(rt, &request, &mut lent)?;
+    list(rt, &request, t)
 }
 
 // A departure, written and shown; the time is dashes where there is none.
@@ -173,22 +165,25 @@ fn depart(rt: &impl Print, boat: u8, day: u16, minute: u16) -> io::Result<()> {
     let departure = Departure { boat, day, minute };
     let mut message = [0u8; DEPARTURE_SYMBOLS];
     let written = departures::write(departure, &mut message);
-    let mut time = [b'-', b'-', b':', b'-', b'-'];
+    let mut time = *b"--:--";
     let shown = departures::show(departure, &mut time);
-    show_departure(rt, b"boat day minute", departure)?;
-    show(rt, b"  write show", &[written, shown])?;
-    show(rt, b"  message", &message)?;
-    rt.write_all(b"  time ")?;
+    show_departure(rt, "boat day minute", departure)?;
+    show(
+        rt,
+        "  write show",
+        &[poly::outcome(&written), poly::outcome(&shown)],
+    )?;
+    show(rt, "  message", &message)?;
+    rt.print("  time ")?;
     rt.write_all(&time)?;
-    rt.write_all(b"\n")
+    rt.println("")
 }
 
 fn read(rt: &impl Print, message: &[u8]) -> io::Result<()> {
-    let reading = departures::read(message);
-    let departure = reading.departure;
-    show(rt, b"message", message)?;
-    show(rt, b"  read", &[reading.number])?;
-    show_departure(rt, b"  boat day minute", departure)
+    let read = departures::read(message);
+    show(rt, "message", message)?;
+    show(rt, "  read", &[poly::outcome(&read)])?;
+    show_departure(rt, "  boat day minute", read.unwrap_or_default())
 }
 
 fn main(rt: HostRuntime) -> io::Result<()> {

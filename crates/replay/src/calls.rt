@@ -1,31 +1,82 @@
 // Stored calls: a header of 24 bytes, then the points and symbols of the call or its text. A number of two bytes has its low byte first.
-ghost use Rattle.std.specs.Prelude.{◌≡◌, ◌≤◌, length, IfOk};
+ghost use Rattle.std.specs.Prelude.{◌≤◌, length};
 
+use departures::Departure;
+use rows::Note;
 use std::io;
 use std::io::{ErrorKind, Read, Stdin};
 
-// Of the jobs on departures, write and show have the boat as p, the day as allowance and the minute as second length; read has its message as
-// symbols without points, and hear is as list.
+// A call, with what its header says of it: how many points and symbols follow, and how many bytes the job is lent. A turn or a finish without a
+// note takes the one that is kept.
 #[derive(Clone, Copy)]
-pub struct Call {
-    pub job: u8,
-    pub p: u8,
-    pub n: u8,
-    pub count: u8,
-    pub k: u8,
-    pub m: u8,
-    pub l: u8,
-    pub r: u8,
-    pub t: u8,
-    pub kept: u8,
-    pub allowance: u16,
-    pub lent: u16,
-    pub second: u16,
-    pub byte: u8,
-}
-
-fn both(low: u8, high: u8) -> u16 {
-    low as u16 + 256 * (high as u16)
+pub enum Call {
+    Encode {
+        p: u8,
+        n: u8,
+        count: u8,
+        lent: u16,
+    },
+    Start {
+        p: u8,
+        n: u8,
+        count: u8,
+        k: u8,
+        m: u8,
+        l: u8,
+        lent: u16,
+    },
+    Turn {
+        note: Option<Note>,
+        allowance: u16,
+        lent: u16,
+    },
+    TurnInPlace {
+        note: Option<Note>,
+        allowance: u16,
+        lent: u16,
+    },
+    Finish {
+        note: Option<Note>,
+        lent: u16,
+        curve: u16,
+    },
+    List {
+        p: u8,
+        n: u8,
+        count: u8,
+        k: u8,
+        m: u8,
+        l: u8,
+        t: u8,
+        lent: u16,
+        messages: u16,
+    },
+    Program {
+        len: u16,
+    },
+    Change {
+        at: u16,
+        byte: u8,
+    },
+    Write {
+        departure: Departure,
+        lent: u16,
+    },
+    Read {
+        count: u8,
+    },
+    Show {
+        departure: Departure,
+        lent: u16,
+    },
+    Hear {
+        n: u8,
+        count: u8,
+        m: u8,
+        l: u8,
+        t: u8,
+        lent: u16,
+    },
 }
 
 // Fills the buffer from standard input; false where the input ends before it is full.
@@ -42,74 +93,118 @@ fn fills(stdin: Stdin, buffer: &mut [u8]) -> io::Result<bool> {
     }
 }
 
-// The next header; one that is not whole has job 0.
-pub fn next(stdin: Stdin) -> io::Result<Call> {
+// The call of a header, or none where its first byte is no job's.
+fn call_of(header: [u8; 24]) -> Option<Call> {
+    let [
+        job,
+        p,
+        n,
+        count,
+        k,
+        m,
+        l,
+        r,
+        t,
+        kept,
+        allowance_low,
+        allowance_high,
+        lent_low,
+        lent_high,
+        second_low,
+        second_high,
+        byte,
+        ..
+    ] = header;
+    let allowance = u16::from_le_bytes([allowance_low, allowance_high]);
+    let lent = u16::from_le_bytes([lent_low, lent_high]);
+    let second = u16::from_le_bytes([second_low, second_high]);
+    let note = if kept == 1 {
+        None
+    } else {
+        Some(Note { p, n, k, m, l, r })
+    };
+    let departure = Departure {
+        boat: p,
+        day: allowance,
+        minute: second,
+    };
+    match job {
+        1 => Some(Call::Encode { p, n, count, lent }),
+        2 => Some(Call::Start {
+            p,
+            n,
+            count,
+            k,
+            m,
+            l,
+            lent,
+        }),
+        3 => Some(Call::Turn {
+            note,
+            allowance,
+            lent,
+        }),
+        4 => Some(Call::TurnInPlace {
+            note,
+            allowance,
+            lent,
+        }),
+        5 => Some(Call::Finish {
+            note,
+            lent,
+            curve: second,
+        }),
+        6 => Some(Call::List {
+            p,
+            n,
+            count,
+            k,
+            m,
+            l,
+            t,
+            lent,
+            messages: second,
+        }),
+        7 => Some(Call::Program { len: lent }),
+        8 => Some(Call::Change {
+            at: allowance,
+            byte,
+        }),
+        9 => Some(Call::Write { departure, lent }),
+        10 => Some(Call::Read { count }),
+        11 => Some(Call::Show { departure, lent }),
+        12 => Some(Call::Hear {
+            n,
+            count,
+            m,
+            l,
+            t,
+            lent,
+        }),
+        _ => None,
+    }
+}
+
+// The next call, or none where no whole header of one follows.
+pub fn next(stdin: Stdin) -> io::Result<Option<Call>> {
     let mut header = [0u8; 24];
     if !fills(stdin, &mut header)? {
-        header[0] = 0;
+        return Ok(None);
     }
-    Ok(Call {
-        job: header[0],
-        p: header[1],
-        n: header[2],
-        count: header[3],
-        k: header[4],
-        m: header[5],
-        l: header[6],
-        r: header[7],
-        t: header[8],
-        kept: header[9],
-        allowance: both(header[10], header[11]),
-        lent: both(header[12], header[13]),
-        second: both(header[14], header[15]),
-        byte: header[16],
-    })
+    Ok(call_of(header))
 }
 
-// Whether the header is that of a job.
-pub fn is_one(call: Call) -> bool {
-    if call.job < 1 {
-        return false;
-    }
-    call.job < 13
-}
-
-// The next n bytes, at the beginning of `out`.
-fn read(stdin: Stdin, out: &mut [u8], n: usize) -> io::Result<()>
-    requires { n ≤ length out.old }
+// The next n bytes, put into the beginning of `room`, or as many as follow. An error is the input's.
+pub fn read(stdin: Stdin, n: usize, room: &mut [u8]) -> io::Result<&[u8]>
+    requires { n ≤ length room.old }
 {
-    fills(stdin, &mut out[..n])?;
-    Ok(())
-}
-
-// An error is the input's, and nothing is lent that it could leave changed.
-pub fn symbols(stdin: Stdin, n: u8) -> io::Result<[u8; 256]>
-    ensures { IfOk result (λ bytes. 256 ≡ length bytes) }
-{
-    let mut bytes = [0u8; 256];
-    read(stdin, &mut bytes, n as usize)?;
+    let bytes = &mut room[..n];
+    fills(stdin, bytes)?;
     Ok(bytes)
 }
 
-// As symbols.
-pub fn text(stdin: Stdin, n: u16) -> io::Result<[u8; 65536]>
-    ensures { IfOk result (λ bytes. 65536 ≡ length bytes) }
-{
-    let mut bytes = [0u8; 65536];
-    read(stdin, &mut bytes, n as usize)?;
-    Ok(bytes)
-}
+// A buffer to lend: every length that a call can ask for is within it.
+pub type Room = [u8; 65536];
 
-// No symbol is 195, so a byte that a job left alone shows.
-pub fn fill(lent: &mut [u8]) {
-    lent.fill(195);
-}
-
-// A buffer to lend, as it is before the call.
-pub fn room() -> [u8; 65536]
-    ensures { 65536 ≡ length result }
-{
-    let mut bytes = [0u8; 65536];
-    fill(&mut bytes);
-    bytes
-}
+// One as it is before the call. No symbol is 195, so a byte that a job left alone shows.
+pub const ROOM: Room = [195; 65536];

@@ -3,11 +3,9 @@
 // are kept from one call to the next, as a board keeps them.
 #![tactic(auto)]
 
-ghost use Rattle.std.specs.Prelude.{◌≤◌, length};
-
-use calls::Call;
+use calls::{Call, ROOM, Room};
 use departures::Departure;
-use rows::Note;
+use rows::{Note, Request};
 use std::io;
 use std::io::Stdin;
 
@@ -15,15 +13,14 @@ mod calls; // calls.rt: the stored calls, read from standard input
 mod jobs; // jobs.rt: one call to the library, and its line
 mod printing; // printing.rt: what lines are made of
 
-// A buffer has 65,536 bytes, so that every length that a call can ask for is within it.
+// Rooms of 256 and of 65,536 bytes hold whatever number of one byte or of two a header gives.
 fn encode(rt: &impl Print, stdin: Stdin, p: u8, n: u8, count: u8, lent: u16) -> io::Result<()> {
-    let points = calls::symbols(stdin, n)?;
-    let message = calls::symbols(stdin, count)?;
-    let mut word = calls::room();
-    let n = n as usize;
-    let count = count as usize;
-    let lent = lent as usize;
-    jobs::encode(rt, p, &points[..n], &message[..count], &mut word[..lent])
+    let mut points = [0u8; 256];
+    let points = calls::read(stdin, n.into(), &mut points)?;
+    let mut message = [0u8; 256];
+    let message = calls::read(stdin, count.into(), &mut message)?;
+    let mut word = ROOM;
+    jobs::encode(rt, p, points, message, &mut word[..usize::from(lent)])
 }
 
 fn start(
@@ -36,55 +33,29 @@ fn start(
     m: u8,
     l: u8,
     lent: u16,
-    rows: &mut [u8],
-) -> io::Result<Note>
-    requires { 65536 ≤ length rows.old }
-{
-    let points = calls::symbols(stdin, n)?;
-    let word = calls::symbols(stdin, count)?;
-    calls::fill(rows);
-    let n = n as usize;
-    let count = count as usize;
-    let lent = lent as usize;
-    jobs::start(
-        rt,
+    rows: &mut Room,
+) -> io::Result<Note> {
+    let mut points = [0u8; 256];
+    let points = calls::read(stdin, n.into(), &mut points)?;
+    let mut word = [0u8; 256];
+    let word = calls::read(stdin, count.into(), &mut word)?;
+    *rows = ROOM;
+    let rows = &mut rows[..usize::from(lent)];
+    let request = Request {
         p,
-        &points[..n],
-        &word[..count],
+        points,
+        word,
         k,
         m,
         l,
-        &mut rows[..lent],
-    )
+    };
+    jobs::start(rt, &request, rows)
 }
 
-fn turn(rt: &impl Print, note: Note, allowance: u16, lent: u16, rows: &mut [u8]) -> io::Result<Note>
-    requires { 65536 ≤ length rows.old }
-{
-    let lent = lent as usize;
-    jobs::turn(rt, note, &mut rows[..lent], allowance)
-}
-
-fn turn_in_place(
-    rt: &impl Print,
-    note: Note,
-    allowance: u16,
-    lent: u16,
-    rows: &mut [u8],
-) -> io::Result<Note>
-    requires { 65536 ≤ length rows.old }
-{
-    let lent = lent as usize;
-    jobs::turn_in_place(rt, note, &mut rows[..lent], allowance)
-}
-
-fn finish(rt: &impl Print, note: Note, lent: u16, second: u16, rows: &[u8]) -> io::Result<()>
-    requires { 65536 ≤ length rows.now }
-{
-    let mut curve = calls::room();
-    let lent = lent as usize;
-    let second = second as usize;
-    jobs::finish(rt, note, &rows[..lent], &mut curve[..second])
+fn finish(rt: &impl Print, note: Note, lent: u16, curve: u16, rows: &Room) -> io::Result<()> {
+    let mut room = ROOM;
+    let rows = &rows[..usize::from(lent)];
+    jobs::finish(rt, note, rows, &mut room[..usize::from(curve)])
 }
 
 fn list(
@@ -98,58 +69,47 @@ fn list(
     l: u8,
     t: u8,
     lent: u16,
-    second: u16,
+    messages: u16,
 ) -> io::Result<()> {
-    let points = calls::symbols(stdin, n)?;
-    let word = calls::symbols(stdin, count)?;
-    let mut room = calls::room();
-    let mut messages = calls::room();
-    let n = n as usize;
-    let count = count as usize;
-    let lent = lent as usize;
-    let second = second as usize;
-    jobs::list(
-        rt,
+    let mut points = [0u8; 256];
+    let points = calls::read(stdin, n.into(), &mut points)?;
+    let mut word = [0u8; 256];
+    let word = calls::read(stdin, count.into(), &mut word)?;
+    let mut working = ROOM;
+    let working = &mut working[..usize::from(lent)];
+    let mut listed = ROOM;
+    let listed = &mut listed[..usize::from(messages)];
+    let request = Request {
         p,
-        &points[..n],
-        &word[..count],
+        points,
+        word,
         k,
         m,
         l,
-        t,
-        &mut room[..lent],
-        &mut messages[..second],
-    )
+    };
+    jobs::list(rt, &request, t, working, listed)
 }
 
 fn program(rt: &impl Print, stdin: Stdin, len: u16) -> io::Result<()> {
-    let text = calls::text(stdin, len)?;
-    let len = len as usize;
-    jobs::program(rt, &text[..len])
-}
-
-fn change(at: u16, byte: u8, rows: &mut [u8])
-    requires { 65536 ≤ length rows.old }
-{
-    rows[at as usize] = byte;
+    let mut text = [0u8; 65536];
+    let text = calls::read(stdin, len.into(), &mut text)?;
+    jobs::program(rt, text)
 }
 
 fn write(rt: &impl Print, departure: Departure, lent: u16) -> io::Result<()> {
-    let mut message = calls::room();
-    let lent = lent as usize;
-    jobs::write(rt, departure, &mut message[..lent])
+    let mut message = ROOM;
+    jobs::write(rt, departure, &mut message[..usize::from(lent)])
 }
 
 fn read(rt: &impl Print, stdin: Stdin, count: u8) -> io::Result<()> {
-    let message = calls::symbols(stdin, count)?;
-    let count = count as usize;
-    jobs::read(rt, &message[..count])
+    let mut message = [0u8; 256];
+    let message = calls::read(stdin, count.into(), &mut message)?;
+    jobs::read(rt, message)
 }
 
 fn show(rt: &impl Print, departure: Departure, lent: u16) -> io::Result<()> {
-    let mut text = calls::room();
-    let lent = lent as usize;
-    jobs::show(rt, departure, &mut text[..lent])
+    let mut text = ROOM;
+    jobs::show(rt, departure, &mut text[..usize::from(lent)])
 }
 
 fn hear(
@@ -162,46 +122,12 @@ fn hear(
     t: u8,
     lent: u16,
 ) -> io::Result<()> {
-    let points = calls::symbols(stdin, n)?;
-    let word = calls::symbols(stdin, count)?;
-    let mut room = calls::room();
-    let n = n as usize;
-    let count = count as usize;
-    let lent = lent as usize;
-    jobs::hear(rt, &points[..n], &word[..count], m, l, t, &mut room[..lent])
-}
-
-// Makes one call on departures.
-fn replay_departure(rt: &impl Print, stdin: Stdin, call: Call) -> io::Result<()> {
-    let job = call.job;
-    let departure = Departure {
-        boat: call.p,
-        day: call.allowance,
-        minute: call.second,
-    };
-    match job {
-        9 => write(rt, departure, call.lent),
-        10 => read(rt, stdin, call.count),
-        11 => show(rt, departure, call.lent),
-        _ => hear(
-            rt, stdin, call.n, call.count, call.m, call.l, call.t, call.lent,
-        ),
-    }
-}
-
-// The note that a turn or a finish takes: the kept one, or the one that the call gives.
-fn taken(call: Call, kept: Note) -> Note {
-    if call.kept == 1 {
-        return kept;
-    }
-    Note {
-        p: call.p,
-        n: call.n,
-        k: call.k,
-        m: call.m,
-        l: call.l,
-        r: call.r,
-    }
+    let mut points = [0u8; 256];
+    let points = calls::read(stdin, n.into(), &mut points)?;
+    let mut word = [0u8; 256];
+    let word = calls::read(stdin, count.into(), &mut word)?;
+    let mut room = ROOM;
+    jobs::hear(rt, points, word, m, l, t, &mut room[..usize::from(lent)])
 }
 
 // Makes one call; hands back the note to keep.
@@ -210,74 +136,77 @@ fn replay(
     stdin: Stdin,
     call: Call,
     kept: Note,
-    rows: &mut [u8],
-) -> io::Result<Note>
-    requires { 65536 ≤ length rows.old }
-{
-    let job = call.job;
-    let note = taken(call, kept);
-    if job == 2 {
-        return start(
-            rt, stdin, call.p, call.n, call.count, call.k, call.m, call.l, call.lent, rows,
-        );
-    }
-    if job == 3 {
-        return turn(rt, note, call.allowance, call.lent, rows);
-    }
-    if job == 4 {
-        return turn_in_place(rt, note, call.allowance, call.lent, rows);
-    }
-    match job {
-        1 => encode(rt, stdin, call.p, call.n, call.count, call.lent),
-        5 => finish(rt, note, call.lent, call.second, rows),
-        6 => list(
-            rt,
-            stdin,
-            call.p,
-            call.n,
-            call.count,
-            call.k,
-            call.m,
-            call.l,
-            call.t,
-            call.lent,
-            call.second,
-        ),
-        7 => program(rt, stdin, call.lent),
-        8 => {
-            change(call.allowance, call.byte, rows);
-            Ok(())
+    rows: &mut Room,
+) -> io::Result<Note> {
+    match call {
+        Call::Encode { p, n, count, lent } => encode(rt, stdin, p, n, count, lent)?,
+        Call::Start {
+            p,
+            n,
+            count,
+            k,
+            m,
+            l,
+            lent,
+        } => return start(rt, stdin, p, n, count, k, m, l, lent, rows),
+        Call::Turn {
+            note,
+            allowance,
+            lent,
+        } => {
+            let rows = &mut rows[..usize::from(lent)];
+            return jobs::turn(rt, note.unwrap_or(kept), rows, allowance);
         }
-        _ => replay_departure(rt, stdin, call),
-    }?;
+        Call::TurnInPlace {
+            note,
+            allowance,
+            lent,
+        } => {
+            let rows = &mut rows[..usize::from(lent)];
+            return jobs::turn_in_place(rt, note.unwrap_or(kept), rows, allowance);
+        }
+        Call::Finish { note, lent, curve } => finish(rt, note.unwrap_or(kept), lent, curve, rows)?,
+        Call::List {
+            p,
+            n,
+            count,
+            k,
+            m,
+            l,
+            t,
+            lent,
+            messages,
+        } => list(rt, stdin, p, n, count, k, m, l, t, lent, messages)?,
+        Call::Program { len } => program(rt, stdin, len)?,
+        Call::Change { at, byte } => rows[usize::from(at)] = byte,
+        Call::Write { departure, lent } => write(rt, departure, lent)?,
+        Call::Read { count } => read(rt, stdin, count)?,
+        Call::Show { departure, lent } => show(rt, departure, lent)?,
+        Call::Hear {
+            n,
+            count,
+            m,
+            l,
+            t,
+            lent,
+        } => hear(rt, stdin, n, count, m, l, t, lent)?,
+    }
     Ok(kept)
 }
 
-// Nothing says that the input ends, so the loop counts down from a number that no input reaches.
-fn replay_all(rt: &impl Print, stdin: Stdin, rows: &mut [u8]) -> io::Result<()>
-    requires { 65536 ≤ length rows.old }
-{
-    let mut note = Note {
-        p: 0,
-        n: 0,
-        k: 0,
-        m: 0,
-        l: 0,
-        r: 0,
-    };
-    let mut left = u64::MAX;
-    while 0 < left {
-        let call = calls::next(stdin)?;
-        if !calls::is_one(call) {
+// Nothing says that the input ends, so the loop counts to a number that no input reaches.
+fn replay_all(rt: &impl Print, stdin: Stdin, rows: &mut Room) -> io::Result<()> {
+    let mut note = Note::default();
+    for _ in 0..u64::MAX {
+        let Some(call) = calls::next(stdin)? else {
             return Ok(());
-        }
+        };
         note = replay(rt, stdin, call, note, rows)?;
-        left -= 1;
     }
     Ok(())
 }
 
 fn main(rt: HostRuntime) -> io::Result<()> {
-    let mut rows = calls::room();
+    let mut rows = ROOM;
     replay_all(&rt, rt.stdin(), &mut rows)
 }

@@ -12,7 +12,7 @@ use Rattle.departures.specs.Departures.{departure_field, departure_symbols}
 use Rattle.departures.specs.Jobs.{WritesDeparture}
 use Rattle.departures.specs.Hearing.{HasHeard, disturbed}
 use Rattle.departures.specs.declared.Departure.{Departure}
-use Rattle.departures.specs.declared.Heard.{Heard}
+use Rattle.departures.specs.Hearing.{Heard}
 
 pub record AllPoints (points : List ℕ) : Type 0 where
   pub long : length points ≡ departure_field

@@ -1,5 +1,7 @@
+use Rattle.std.proofs.Common.{◌++◌, drop}
 use Rattle.sailing.proofs.Disturbing.{Wrong}
 use Rattle.sailing.proofs.disturb.Given as goal
 
-abbrev pub invariant-loop-s : goal.invariant-loop-s
-invariant-loop-s l = Wrong l.s l.fn.word l.word
+-- behind the symbols that the loop goes over stand the others
+abbrev pub invariant-loop-symbol : goal.invariant-loop-symbol
+invariant-loop-symbol l = Wrong l.symbol-index l.fn.word (l.symbol-items ++ drop l.count l.fn.word)
