@@ -173,7 +173,7 @@ fn go(note: Note, rows: &mut [u8], allowance: u16) -> Turned
             }
             let v = held.lead_of(s).weight;
             let crossing = Crossing { r, w, s, v };
-            if crossing.vanishes(rows, shape) {
+            if crossing.vanishes(&held) {
                 return Turned {
                     outcome: Err(Refused::NotAsLeft),
                     note: at_row(note, r),

@@ -8,6 +8,7 @@ ghost use Rattle.rows.specs.Bytes.{Holds, rows_bytes};
 ghost use Rattle.rows.specs.Work.{Crosses, leads_ratio, updated_rows, delayed_byte, Slots, SlotVanishes, Exchanges, Exchanged};
 
 use crate::Shape;
+use crate::view::Rows;
 use field::Symbol;
 
 // Row r leads at weight w and power s of y, row s at weight v and the same power.
@@ -19,7 +20,7 @@ pub struct Crossing {
     pub v: usize,
 }
 
-// An update writes the rows, so their bytes are lent beside the shape, and no view holds them; Crosses says that they hold rows.
+// `update` writes the rows, so their bytes are lent to it beside the shape, and no view holds them; so `ratio`, which it calls, takes them too.
 impl Crossing {
     // The leading coefficient of row r over that of row s.
     fn ratio(self, rows: &[u8], shape: Shape) -> Symbol
@@ -37,19 +38,21 @@ impl Crossing {
     }
 
     // Whether the update would make row r zero.
-    pub fn vanishes(self, rows: &[u8], shape: Shape) -> bool
-        requires { Crosses shape rows.now self.r self.w self.s self.v }
-        ensures { Decided result (Zero (symbols shape.p).ring (updated_rows shape rows.now self.r self.w self.s self.v self.r)) }
+    pub fn vanishes(self, rows: &Rows) -> bool
+        requires { Crosses rows.now.shape rows.now.bytes.now self.r self.w self.s self.v }
+        ensures { Decided result (Zero (symbols rows.now.shape.p).ring (updated_rows rows.now.shape rows.now.bytes.now self.r self.w
+            self.s self.v self.r)) }
     {
         let Crossing { r, w, s, v } = self;
-        let c = self.ratio(rows, shape);
+        let Rows { bytes, shape } = *rows;
+        let c = self.ratio(bytes, shape);
         let up = v.saturating_sub(w);
         let down = w.saturating_sub(v);
         let curve = shape.curve_bytes();
         let slot = shape.slot();
         for j in 0..=shape.l {
             let at = j * slot;
-            if !slot_vanishes(rows, shape, r * curve + at, up, s * curve + at, down, c) {
+            if !slot_vanishes(bytes, shape, r * curve + at, up, s * curve + at, down, c) {
                 return false;
             }
         }

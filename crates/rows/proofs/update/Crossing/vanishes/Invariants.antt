@@ -9,6 +9,6 @@ use Rattle.rows.proofs.update.Crossing.vanishes.Given as goal
 abbrev pub invariant-loop-j : goal.invariant-loop-j
 invariant-loop-j l =
     (t : ℕ) → t < l.j → (e : ℕ) → e ≤ l.shape.width
-    → cross (symbols l.shape.p).ring (l.v - l.w) (rows_of l.shape l.rows l.r)
-    (leads_ratio l.shape l.rows l.r l.w l.s l.v) (l.w - l.v) (rows_of l.shape l.rows l.s) t e
+    → cross (symbols l.shape.p).ring (l.v - l.w) (rows_of l.shape l.bytes l.r)
+    (leads_ratio l.shape l.bytes l.r l.w l.s l.v) (l.w - l.v) (rows_of l.shape l.bytes l.s) t e
     ≡ symbol l.shape.p 0
