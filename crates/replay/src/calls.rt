@@ -1,6 +1,4 @@
 // Stored calls: a header of 24 bytes, then the points and symbols of the call or its text. A number of two bytes has its low byte first.
-ghost use Rattle.std.specs.Prelude.{◌≤◌, length};
-
 use departures::Departure;
 use rows::Note;
 use std::io;
@@ -194,13 +192,10 @@ pub fn next(stdin: Stdin) -> io::Result<Option<Call>> {
     Ok(call_of(header))
 }
 
-// The next n bytes, put into the beginning of `room`, or as many as follow. An error is the input's.
-pub fn read(stdin: Stdin, n: usize, room: &mut [u8]) -> io::Result<&[u8]>
-    requires { n ≤ length room.old }
-{
-    let bytes = &mut room[..n];
-    fills(stdin, bytes)?;
-    Ok(bytes)
+// The next bytes, as many as there is room for, or as many as follow. An error is the input's.
+pub fn read(stdin: Stdin, room: &mut [u8]) -> io::Result<&[u8]> {
+    fills(stdin, room)?;
+    Ok(room)
 }
 
 // A buffer to lend: every length that a call can ask for is within it.

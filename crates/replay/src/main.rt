@@ -16,9 +16,9 @@ mod printing; // printing.rt: what lines are made of
 // Rooms of 256 and of 65,536 bytes hold whatever number of one byte or of two a header gives.
 fn encode(rt: &impl Print, stdin: Stdin, p: u8, n: u8, count: u8, lent: u16) -> io::Result<()> {
     let mut points = [0u8; 256];
-    let points = calls::read(stdin, n.into(), &mut points)?;
+    let points = calls::read(stdin, &mut points[..usize::from(n)])?;
     let mut message = [0u8; 256];
-    let message = calls::read(stdin, count.into(), &mut message)?;
+    let message = calls::read(stdin, &mut message[..usize::from(count)])?;
     let mut word = ROOM;
     jobs::encode(rt, p, points, message, &mut word[..usize::from(lent)])
 }
@@ -36,9 +36,9 @@ fn start(
     rows: &mut Room,
 ) -> io::Result<Note> {
     let mut points = [0u8; 256];
-    let points = calls::read(stdin, n.into(), &mut points)?;
+    let points = calls::read(stdin, &mut points[..usize::from(n)])?;
     let mut word = [0u8; 256];
-    let word = calls::read(stdin, count.into(), &mut word)?;
+    let word = calls::read(stdin, &mut word[..usize::from(count)])?;
     *rows = ROOM;
     let rows = &mut rows[..usize::from(lent)];
     let request = Request {
@@ -52,9 +52,8 @@ fn start(
     jobs::start(rt, &request, rows)
 }
 
-fn finish(rt: &impl Print, note: Note, lent: u16, curve: u16, rows: &Room) -> io::Result<()> {
+fn finish(rt: &impl Print, note: Note, rows: &[u8], curve: u16) -> io::Result<()> {
     let mut room = ROOM;
-    let rows = &rows[..usize::from(lent)];
     jobs::finish(rt, note, rows, &mut room[..usize::from(curve)])
 }
 
@@ -72,9 +71,9 @@ fn list(
     messages: u16,
 ) -> io::Result<()> {
     let mut points = [0u8; 256];
-    let points = calls::read(stdin, n.into(), &mut points)?;
+    let points = calls::read(stdin, &mut points[..usize::from(n)])?;
     let mut word = [0u8; 256];
-    let word = calls::read(stdin, count.into(), &mut word)?;
+    let word = calls::read(stdin, &mut word[..usize::from(count)])?;
     let mut working = ROOM;
     let working = &mut working[..usize::from(lent)];
     let mut listed = ROOM;
@@ -92,7 +91,7 @@ fn list(
 
 fn program(rt: &impl Print, stdin: Stdin, len: u16) -> io::Result<()> {
     let mut text = [0u8; 65536];
-    let text = calls::read(stdin, len.into(), &mut text)?;
+    let text = calls::read(stdin, &mut text[..usize::from(len)])?;
     jobs::program(rt, text)
 }
 
@@ -103,7 +102,7 @@ fn write(rt: &impl Print, departure: Departure, lent: u16) -> io::Result<()> {
 
 fn read(rt: &impl Print, stdin: Stdin, count: u8) -> io::Result<()> {
     let mut message = [0u8; 256];
-    let message = calls::read(stdin, count.into(), &mut message)?;
+    let message = calls::read(stdin, &mut message[..usize::from(count)])?;
     jobs::read(rt, message)
 }
 
@@ -123,9 +122,9 @@ fn hear(
     lent: u16,
 ) -> io::Result<()> {
     let mut points = [0u8; 256];
-    let points = calls::read(stdin, n.into(), &mut points)?;
+    let points = calls::read(stdin, &mut points[..usize::from(n)])?;
     let mut word = [0u8; 256];
-    let word = calls::read(stdin, count.into(), &mut word)?;
+    let word = calls::read(stdin, &mut word[..usize::from(count)])?;
     let mut room = ROOM;
     jobs::hear(rt, points, word, m, l, t, &mut room[..usize::from(lent)])
 }
@@ -165,7 +164,10 @@ fn replay(
             let rows = &mut rows[..usize::from(lent)];
             return jobs::turn_in_place(rt, note.unwrap_or(kept), rows, allowance);
         }
-        Call::Finish { note, lent, curve } => finish(rt, note.unwrap_or(kept), lent, curve, rows)?,
+        Call::Finish { note, lent, curve } => {
+            let rows = &rows[..usize::from(lent)];
+            finish(rt, note.unwrap_or(kept), rows, curve)?
+        }
         Call::List {
             p,
             n,
