@@ -1,15 +1,24 @@
 -- Numbers and lists of numbers: a text is one number, or one list, at most, and a list ends its first number at its first comma.
 use mathlib.Core.Path.{◌≡◌, refl, sym, ap, ◌∙◌}
 use mathlib.Core.List.{List, [], ◌∷◌, ◌++◌}
-use Prim.Native.Nat.{ℕ, ◌≤◌, ◌<◌}
+use Prim.Native.Nat.{ℕ, zero, suc, ◌-◌, ◌≤◌, ◌<◌}
 use native.Mathlib.Omega.{arith}
-use lib.ListN.{length}
-use Rattle.text.specs.Requests.{Number, Numbers, Optional}
+use lib.ListN.{length, get_or}
+use Rattle.text.specs.Requests.{number_of, Number, Numbers, Optional}
 use Rattle.text.specs.Requests.Numbers.{single, more}
 use Rattle.text.specs.Requests.Optional.{nothing, given}
 use Rattle.std.proofs.Common.{Option, Some, None}
 use Rattle.text.specs.Reading.{Free, Meant}
 use Rattle.text.proofs.Seeking.{free-cons, free-join, free_not, free-parts}
+
+-- a number of one digit
+pub digit : (b : ℕ) → 48 ≤ b → b ≤ 57 → Number (b ∷ []) (b - 48)
+unfolding number_of
+digit b low high = record { some = omega arith; few = omega arith; are_digits = first; is = omega arith; small = omega arith }
+  where
+    first : (i : ℕ) → i < 1 → (48 ≤ get_or (b ∷ []) i 0) × (get_or (b ∷ []) i 0 ≤ 57)
+    first zero h = (low, high)
+    first (suc i) h = absurd (omega arith)
 
 -- commas and line feeds come before the digits
 pub number-free : {text : List ℕ} {n : ℕ} (b : ℕ) → b < 48 → Number text n → Free b text
