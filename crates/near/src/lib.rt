@@ -32,8 +32,10 @@ pub struct Weighed {
 
 // The curve of demand 2: start, one turn with more than all updates ever needed, finish.
 fn interpolate(request: &Request, room: &mut [u8], curve: &mut [u8]) -> Weighed
-    requires first { First (start_table request.now.p request.now.points.now request.now.word.now request.now.k request.now.m request.now.l room.old) 0 }
-    requires curve_room { curve_bytes (shape request.now.p (length request.now.points.now) request.now.k request.now.m request.now.l) ≤ length curve.old }
+    requires first { First (start_table request.now.p request.now.points.now request.now.word.now request.now.k request.now.m request.now.l
+        room.old) 0 }
+    requires curve_room { curve_bytes (shape request.now.p (length request.now.points.now) request.now.k request.now.m request.now.l)
+        ≤ length curve.old }
     ensures { FoundCurve request.now.p request.now.points.now request.now.word.now request.now.k request.now.m request.now.l
         room.old room.new curve.old curve.new result }
 {

@@ -56,8 +56,7 @@ fn product_at(f: &[u8], xs: &[u8], at: usize, e: usize, p: u8) -> u8
     field::convolve(f, xs, at + e, f.len().min(e + 1), p)
 }
 
-// The x-polynomial in the `len` bytes from `at` on, times f, as far as the bytes go. A place and a length, as in field's functions: they work on
-// two regions of one buffer.
+// The x-polynomial in the `len` bytes from `at` on, times f, as far as the bytes go.
 pub fn multiply(xs: &mut [u8], at: usize, len: usize, f: &[u8], p: u8)
     requires { Factors p f.now at len xs.old }
     ensures { Product p f.now at len xs.old xs.new }
