@@ -15,7 +15,7 @@ unread-answer (unreadable none) w = record { printed = reply 14 0 0 0 0 []; repl
 
 -- the list that the code asks is that of the request read
 pub listed-answer : {text before after : List ℕ} {r : ℕ} {left messages : List ℕ} {near : Near} {request : Request} → HasRead text (Some request)
-    → HasListed request.field request.points.items request.word.items request.k request.m request.l request.t
+    → HasListed request.field request.points request.word request.k request.m request.l request.t
     (replicate working_room 0) left (replicate messages_most 0) messages near
     → HasWritten (reply near.number near.updates near.weight near.count request.k messages) before after r
     → Answered text before after r

@@ -1,4 +1,5 @@
 pub mod Lines
+pub mod NumberLists
 pub mod Requests
 pub mod Answers
 pub mod Replies

@@ -85,8 +85,8 @@ stored r = record {
   m = r.m;
   l = r.l;
   t = r.t;
-  points = record { items = r.points };
-  word = record { items = r.word };
+  points = r.points;
+  word = r.word;
 }
 
 pub data HasRead (text : List ℕ) : Option Request → Type 0 where

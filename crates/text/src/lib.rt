@@ -6,23 +6,24 @@ ghost use Rattle.text.specs.Requests.{HasRead};
 ghost use Rattle.text.specs.Answers.{reply, HasWritten};
 ghost use Rattle.text.specs.Replies.{said};
 
-use arrayvec::ArrayVec;
-use poly::limits::FIELD_MOST;
 use reading::{number, numbers, optional, take_line};
 use writing::Page;
 
+mod number_list; // number_list.rt: a list of numbers
 mod reading; // reading.rt: lines, numbers and lists of numbers in a text
 mod writing; // writing.rt: numbers and lines put on a page
 
-#[derive(Drop)]
+pub use number_list::NumberList;
+
+#[derive(Clone, Copy)]
 pub struct Request {
     pub field: u8,
     pub k: u8,
     pub m: u8,
     pub l: u8,
     pub t: u8,
-    pub points: ArrayVec<u8, FIELD_MOST>,
-    pub word: ArrayVec<u8, FIELD_MOST>,
+    pub points: NumberList,
+    pub word: NumberList,
 }
 
 // The request that the text means, if it can be read.

@@ -3,8 +3,7 @@ ghost use Rattle.std.specs.Prelude.{MatchOption};
 ghost use Rattle.text.specs.Requests.{Number, Optional, FewNumbers, Line};
 ghost use Rattle.text.specs.Reading.{Any, Meant, Stands};
 
-use arrayvec::ArrayVec;
-use poly::limits::FIELD_MOST;
+use crate::NumberList;
 
 // The value of the line that the text begins with, if it has this key, and the text after the line.
 pub fn take_line<'a>(text: &'a [u8], key: &[u8]) -> Option<(&'a [u8], &'a [u8])>
@@ -44,12 +43,12 @@ pub fn optional(text: &[u8], other: u8) -> Option<u8>
 }
 
 // Numbers with commas between them, at most as many as there can be points.
-pub fn numbers(text: &[u8]) -> Option<ArrayVec<u8, FIELD_MOST>>
-    ensures { Meant result (λ v. FewNumbers text.now v.items) }
+pub fn numbers(text: &[u8]) -> Option<NumberList>
+    ensures { Meant result (FewNumbers text.now) }
 {
-    let mut items = ArrayVec::new();
+    let mut items = NumberList::new();
     for part in text.split(|b| *b == b',') {
-        items.try_push(number(part)?).ok()?;
+        items.push(number(part)?)?;
     }
     Some(items)
 }

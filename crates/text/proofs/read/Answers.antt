@@ -106,12 +106,12 @@ returns-in_err-t-2 c =
 
 pub returns-in_err-points-2 : goal.returns-in_err-points-2
 returns-in_err-points-2 c =
-    rw c.from_residual-in_err-points-2.ensures (unreadable (λ r p. c.in_err-points-2.ensures (record { items = r.points })
+    rw c.from_residual-in_err-points-2.ensures (unreadable (λ r p. c.in_err-points-2.ensures r.points
     (reads (goal.at.returns-in_err-points-2 c).In_ok-word r p).points_are))
 
 pub returns-in_err-word-2 : goal.returns-in_err-word-2
 returns-in_err-word-2 c =
-    rw c.from_residual-in_err-word-2.ensures (unreadable (λ r p. c.in_err-word-2.ensures (record { items = r.word })
+    rw c.from_residual-in_err-word-2.ensures (unreadable (λ r p. c.in_err-word-2.ensures r.word
     (reads (goal.at.returns-in_err-word-2 c).In_ok-word r p).word_is))
 
 pub returns : goal.returns
@@ -122,8 +122,8 @@ returns c =
       m = c.in_ok-m-2.m;
       l = c.in_ok-l-2.l;
       t = c.in_ok-t-2.t;
-      points = c.in_ok-points-2.points.items;
-      word = c.in_ok-word-2.word.items;
+      points = c.in_ok-points-2.points;
+      word = c.in_ok-word-2.word;
     }) (stands_line c.in_ok-field.ensures c.in_ok-field-2.ensures (stands_line c.in_ok-k.ensures c.in_ok-k-2.ensures
     (stands_line c.in_ok-m.ensures c.in_ok-m-2.ensures (stands_line c.in_ok-l.ensures c.in_ok-l-2.ensures
     (stands_line c.in_ok-t.ensures c.in_ok-t-2.ensures (stands_line c.in_ok-points.ensures c.in_ok-points-2.ensures

@@ -13,7 +13,7 @@ part c =
     next_part c.loop-part.part-iterator c.next.new.self c.in-Some.part c.in-Some.ensures.steps
     (always_returns_same _ _ _ (λ a r f k. search (rules, tests)))
 
-so_far : (c : In-Some) → SoFar c.args.text.now c.loop-part.items.items false c.loop-part.part-iterator.rest.now
+so_far : (c : In-Some) → SoFar c.args.text.now c.loop-part.items false c.loop-part.part-iterator.rest.now
 so_far c = rw c.in-Some.ensures.steps.0 at c.loop-part.invariant
 
 pub loop-part-init : goal.loop-part-init
@@ -24,20 +24,20 @@ loop-part-init c =
 pub loop-part-preserved : goal.loop-part-preserved
 loop-part-preserved c =
     let s = (goal.at.loop-part-preserved c).In-Some in
-    let room : length c.loop-part.items.items < field_most = search (rules, tests) in
-    let pushed : c.try_push.new.self.items ≡ c.loop-part.items.items ++ c.in_ok-number.field-0 ∷ [] = search (rules, tests) in
+    let room : length c.loop-part.items < field_most = search (rules, tests) in
+    let pushed : c.push.new.self ≡ c.loop-part.items ++ c.in_ok-number.field-0 ∷ [] = search (rules, tests) in
     rw pushed (more_items (so_far s) (part s) c.in_ok-number.field-0 room c.in_ok-number.ensures)
 
 pub returns-in_err-number : goal.returns-in_err-number
 returns-in_err-number c =
     let s = (goal.at.returns-in_err-number c).In-Some in
-    rw c.from_residual.ensures (λ v. no_item (so_far s) (part s) c.in_err-number.ensures v.items)
+    rw c.from_residual.ensures (λ v. no_item (so_far s) (part s) c.in_err-number.ensures v)
 
-pub returns-in_err-ok : goal.returns-in_err-ok
-returns-in_err-ok c =
-    let s = (goal.at.returns-in_err-ok c).In-Some in
-    let full : field_most ≤ length c.loop-part.items.items = search (rules, tests) in
-    rw c.from_residual-in_err-ok.ensures (λ v. too-many (so_far s) full v.items)
+pub returns-in_err-push : goal.returns-in_err-push
+returns-in_err-push c =
+    let s = (goal.at.returns-in_err-push c).In-Some in
+    let full : field_most ≤ length c.loop-part.items = search (rules, tests) in
+    rw c.from_residual-in_err-push.ensures (λ v. too-many (so_far s) full v)
 
 pub returns : goal.returns
 returns c = all_read (rw c.in-None.ensures.steps.0 at c.loop-part.invariant)
