@@ -26,27 +26,28 @@ pub struct Request {
     pub word: NumberList,
 }
 
-// The request that the text means, if it can be read.
+// The request that the text means, if it can be read. Each value is read before the next line is looked for, so that a text is read no further
+// than what is wrong with it.
 pub fn read(text: &[u8]) -> Option<Request>
     ensures { HasRead text.now result }
 {
     let (field, rest) = take_line(text, b"field=")?;
+    let field = number(field)?;
     let (k, rest) = take_line(rest, b"k=")?;
+    let k = number(k)?;
     let (m, rest) = take_line(rest, b"m=")?;
+    let m = optional(m, 1)?;
     let (l, rest) = take_line(rest, b"l=")?;
+    let l = optional(l, m)?;
     let (t, rest) = take_line(rest, b"t=")?;
+    let t = number(t)?;
     let (points, rest) = take_line(rest, b"points=")?;
+    let points = numbers(points)?;
     let (word, rest) = take_line(rest, b"word=")?;
+    let word = numbers(word)?;
     if !rest.is_empty() {
         return None;
     }
-    let field = number(field)?;
-    let k = number(k)?;
-    let m = optional(m, 1)?;
-    let l = optional(l, m)?;
-    let t = number(t)?;
-    let points = numbers(points)?;
-    let word = numbers(word)?;
     Some(Request {
         field,
         k,

@@ -1,118 +1,78 @@
--- `text::read` meets its contract. Every reading of the text has the lines that were taken, so where the next line or a value is refused there is
--- none; and the seven lines, with what their values mean, are one.
-use Rattle.std.proofs.Common.{◌≡◌, List, [], ℕ, subst, rules}
+-- `text::read` meets its contract. Every reading of the text has the lines that were taken and means their values, so where the next line or its
+-- value is refused there is none; and the seven lines, with what their values mean, are one.
+use Rattle.std.proofs.Common.{subst, rules}
 use Rattle.std.proofs.lemmas.List.{nil_from_length}
 use borrow.Author.Tests.{tests}
-use Rattle.text.specs.Requests.{Number, Optional, FewNumbers, Meaning, Readable}
+use Rattle.text.specs.Requests.{Optional}
 use Rattle.text.specs.Requests.HasRead.{readable, unreadable}
 use Rattle.text.proofs.Grammar.{number_plain, optional_plain, listed_plain}
 use Rattle.text.proofs.Numbers.{optional-same}
 use Rattle.text.proofs.StandingLines.{any_line, means, goes_on, stands_line}
-use Rattle.text.proofs.read.Goals.{In_ok-word}
 use Rattle.text.proofs.read.Goals as goal
 
 pub returns-in_err-field : goal.returns-in_err-field
-returns-in_err-field c = rw c.from_residual.ensures (unreadable (λ r p. c.in_err-field.ensures (any_line p)))
+returns-in_err-field c =
+    rw c.from_residual.ensures (unreadable (λ r p. c.in_err-field.ensures (any_line p)))
+
+pub returns-in_err-field-2 : goal.returns-in_err-field-2
+returns-in_err-field-2 c =
+    rw c.from_residual-in_err-field-2.ensures (unreadable (λ r p. c.in_err-field-2.ensures r.field (means number_plain c.in_ok-field.ensures p)))
 
 pub returns-in_err-k : goal.returns-in_err-k
 returns-in_err-k c =
     rw c.from_residual-in_err-k.ensures (unreadable (λ r p. c.in_err-k.ensures (any_line (goes_on number_plain c.in_ok-field.ensures p))))
 
-pub returns-in_err-m : goal.returns-in_err-m
-returns-in_err-m c =
-    rw c.from_residual-in_err-m.ensures (unreadable (λ r p. c.in_err-m.ensures (any_line
-    (goes_on number_plain c.in_ok-k.ensures (goes_on number_plain c.in_ok-field.ensures p)))))
-
-pub returns-in_err-l : goal.returns-in_err-l
-returns-in_err-l c =
-    rw c.from_residual-in_err-l.ensures (unreadable (λ r p. c.in_err-l.ensures (any_line (goes_on (optional_plain 1) c.in_ok-m.ensures
-    (goes_on number_plain c.in_ok-k.ensures (goes_on number_plain c.in_ok-field.ensures p))))))
-
-pub returns-in_err-t : goal.returns-in_err-t
-returns-in_err-t c =
-    rw c.from_residual-in_err-t.ensures (unreadable (λ r p. c.in_err-t.ensures (any_line (goes_on (optional_plain r.m) c.in_ok-l.ensures
-    (goes_on (optional_plain 1) c.in_ok-m.ensures (goes_on number_plain c.in_ok-k.ensures (goes_on number_plain c.in_ok-field.ensures p)))))))
-
-pub returns-in_err-points : goal.returns-in_err-points
-returns-in_err-points c =
-    rw c.from_residual-in_err-points.ensures (unreadable (λ r p. c.in_err-points.ensures (any_line (goes_on number_plain c.in_ok-t.ensures
-    (goes_on (optional_plain r.m) c.in_ok-l.ensures (goes_on (optional_plain 1) c.in_ok-m.ensures (goes_on number_plain c.in_ok-k.ensures
-    (goes_on number_plain c.in_ok-field.ensures p))))))))
-
-pub returns-in_err-word : goal.returns-in_err-word
-returns-in_err-word c =
-    rw c.from_residual-in_err-word.ensures (unreadable (λ r p. c.in_err-word.ensures (any_line (goes_on listed_plain c.in_ok-points.ensures
-    (goes_on number_plain c.in_ok-t.ensures (goes_on (optional_plain r.m) c.in_ok-l.ensures (goes_on (optional_plain 1) c.in_ok-m.ensures
-    (goes_on number_plain c.in_ok-k.ensures (goes_on number_plain c.in_ok-field.ensures p)))))))))
-
--- the values of the seven lines mean r
-record Reads (field k m l t points word rest : List ℕ) (r : Meaning) : Type 0 where
-  field_is : Number field r.field
-  k_is : Number k r.k
-  m_is : Optional 1 m r.m
-  l_is : Optional r.m l r.l
-  t_is : Number t r.t
-  points_are : FewNumbers points r.points
-  word_is : FewNumbers word r.word
-  ends : rest ≡ []
-
-reads : (c : In_ok-word) (r : Meaning) → Readable c.args.text.now r
-    → Reads c.in_ok-field.field.now c.in_ok-k.k.now c.in_ok-m.m.now c.in_ok-l.l.now c.in_ok-t.t.now c.in_ok-points.points.now c.in_ok-word.word.now
-    c.in_ok-word.rest.now r
-reads c r field =
-    let k = goes_on number_plain c.in_ok-field.ensures field in
-    let m = goes_on number_plain c.in_ok-k.ensures k in
-    let l = goes_on (optional_plain 1) c.in_ok-m.ensures m in
-    let t = goes_on (optional_plain r.m) c.in_ok-l.ensures l in
-    let points = goes_on number_plain c.in_ok-t.ensures t in
-    let word = goes_on listed_plain c.in_ok-points.ensures points in
-    record {
-      field_is = means number_plain c.in_ok-field.ensures field;
-      k_is = means number_plain c.in_ok-k.ensures k;
-      m_is = means (optional_plain 1) c.in_ok-m.ensures m;
-      l_is = means (optional_plain r.m) c.in_ok-l.ensures l;
-      t_is = means number_plain c.in_ok-t.ensures t;
-      points_are = means listed_plain c.in_ok-points.ensures points;
-      word_is = means listed_plain c.in_ok-word.ensures word;
-      ends = goes_on listed_plain c.in_ok-word.ensures word;
-    }
-
-pub returns-then-not-is_empty : goal.returns-then-not-is_empty
-returns-then-not-is_empty c =
-    unreadable (λ r p. let ends = (reads (goal.at.returns-then-not-is_empty c).In_ok-word r p).ends in search (rules, tests))
-
-pub returns-in_err-field-2 : goal.returns-in_err-field-2
-returns-in_err-field-2 c =
-    rw c.from_residual-in_err-field-2.ensures (unreadable (λ r p. c.in_err-field-2.ensures r.field
-    (reads (goal.at.returns-in_err-field-2 c).In_ok-word r p).field_is))
-
 pub returns-in_err-k-2 : goal.returns-in_err-k-2
 returns-in_err-k-2 c =
-    rw c.from_residual-in_err-k-2.ensures (unreadable (λ r p. c.in_err-k-2.ensures r.k (reads (goal.at.returns-in_err-k-2 c).In_ok-word r p).k_is))
+    rw c.from_residual-in_err-k-2.ensures (unreadable (λ r p. c.in_err-k-2.ensures r.k (means number_plain c.in_ok-k.ensures (goes_on number_plain c.in_ok-field.ensures p))))
+
+pub returns-in_err-m : goal.returns-in_err-m
+returns-in_err-m c =
+    rw c.from_residual-in_err-m.ensures (unreadable (λ r p. c.in_err-m.ensures (any_line (goes_on number_plain c.in_ok-k.ensures (goes_on number_plain c.in_ok-field.ensures p)))))
 
 pub returns-in_err-m-2 : goal.returns-in_err-m-2
 returns-in_err-m-2 c =
-    rw c.from_residual-in_err-m-2.ensures (unreadable (λ r p. c.in_err-m-2.ensures r.m (reads (goal.at.returns-in_err-m-2 c).In_ok-word r p).m_is))
+    rw c.from_residual-in_err-m-2.ensures (unreadable (λ r p. c.in_err-m-2.ensures r.m (means (optional_plain 1) c.in_ok-m.ensures (goes_on number_plain c.in_ok-k.ensures (goes_on number_plain c.in_ok-field.ensures p)))))
+
+pub returns-in_err-l : goal.returns-in_err-l
+returns-in_err-l c =
+    rw c.from_residual-in_err-l.ensures (unreadable (λ r p. c.in_err-l.ensures (any_line (goes_on (optional_plain 1) c.in_ok-m.ensures (goes_on number_plain c.in_ok-k.ensures (goes_on number_plain c.in_ok-field.ensures p))))))
 
 -- an empty `l=` means the value of `m=`, which is r's
 pub returns-in_err-l-2 : goal.returns-in_err-l-2
 returns-in_err-l-2 c =
-    rw c.from_residual-in_err-l-2.ensures (unreadable (λ r p. let h = reads (goal.at.returns-in_err-l-2 c).In_ok-word r p in
-    c.in_err-l-2.ensures r.l (subst (λ m. Optional m c.in_ok-l.l.now r.l) (optional-same 1 h.m_is c.in_ok-m-2.ensures) h.l_is)))
+    rw c.from_residual-in_err-l-2.ensures (unreadable (λ r p. let m = (goes_on number_plain c.in_ok-k.ensures (goes_on number_plain c.in_ok-field.ensures p)) in
+    let m_is = means (optional_plain 1) c.in_ok-m.ensures m in
+    let l_is = means (optional_plain r.m) c.in_ok-l.ensures (goes_on (optional_plain 1) c.in_ok-m.ensures m) in
+    c.in_err-l-2.ensures r.l (subst (λ m. Optional m c.in_ok-l.l.now r.l) (optional-same 1 m_is c.in_ok-m-2.ensures) l_is)))
+
+pub returns-in_err-t : goal.returns-in_err-t
+returns-in_err-t c =
+    rw c.from_residual-in_err-t.ensures (unreadable (λ r p. c.in_err-t.ensures (any_line (goes_on (optional_plain r.m) c.in_ok-l.ensures (goes_on (optional_plain 1) c.in_ok-m.ensures (goes_on number_plain c.in_ok-k.ensures (goes_on number_plain c.in_ok-field.ensures p)))))))
 
 pub returns-in_err-t-2 : goal.returns-in_err-t-2
 returns-in_err-t-2 c =
-    rw c.from_residual-in_err-t-2.ensures (unreadable (λ r p. c.in_err-t-2.ensures r.t (reads (goal.at.returns-in_err-t-2 c).In_ok-word r p).t_is))
+    rw c.from_residual-in_err-t-2.ensures (unreadable (λ r p. c.in_err-t-2.ensures r.t (means number_plain c.in_ok-t.ensures (goes_on (optional_plain r.m) c.in_ok-l.ensures (goes_on (optional_plain 1) c.in_ok-m.ensures (goes_on number_plain c.in_ok-k.ensures (goes_on number_plain c.in_ok-field.ensures p)))))))
+
+pub returns-in_err-points : goal.returns-in_err-points
+returns-in_err-points c =
+    rw c.from_residual-in_err-points.ensures (unreadable (λ r p. c.in_err-points.ensures (any_line (goes_on number_plain c.in_ok-t.ensures (goes_on (optional_plain r.m) c.in_ok-l.ensures (goes_on (optional_plain 1) c.in_ok-m.ensures (goes_on number_plain c.in_ok-k.ensures (goes_on number_plain c.in_ok-field.ensures p))))))))
 
 pub returns-in_err-points-2 : goal.returns-in_err-points-2
 returns-in_err-points-2 c =
-    rw c.from_residual-in_err-points-2.ensures (unreadable (λ r p. c.in_err-points-2.ensures r.points
-    (reads (goal.at.returns-in_err-points-2 c).In_ok-word r p).points_are))
+    rw c.from_residual-in_err-points-2.ensures (unreadable (λ r p. c.in_err-points-2.ensures r.points (means listed_plain c.in_ok-points.ensures (goes_on number_plain c.in_ok-t.ensures (goes_on (optional_plain r.m) c.in_ok-l.ensures (goes_on (optional_plain 1) c.in_ok-m.ensures (goes_on number_plain c.in_ok-k.ensures (goes_on number_plain c.in_ok-field.ensures p))))))))
+
+pub returns-in_err-word : goal.returns-in_err-word
+returns-in_err-word c =
+    rw c.from_residual-in_err-word.ensures (unreadable (λ r p. c.in_err-word.ensures (any_line (goes_on listed_plain c.in_ok-points.ensures (goes_on number_plain c.in_ok-t.ensures (goes_on (optional_plain r.m) c.in_ok-l.ensures (goes_on (optional_plain 1) c.in_ok-m.ensures (goes_on number_plain c.in_ok-k.ensures (goes_on number_plain c.in_ok-field.ensures p)))))))))
 
 pub returns-in_err-word-2 : goal.returns-in_err-word-2
 returns-in_err-word-2 c =
-    rw c.from_residual-in_err-word-2.ensures (unreadable (λ r p. c.in_err-word-2.ensures r.word
-    (reads (goal.at.returns-in_err-word-2 c).In_ok-word r p).word_is))
+    rw c.from_residual-in_err-word-2.ensures (unreadable (λ r p. c.in_err-word-2.ensures r.word (means listed_plain c.in_ok-word.ensures (goes_on listed_plain c.in_ok-points.ensures (goes_on number_plain c.in_ok-t.ensures (goes_on (optional_plain r.m) c.in_ok-l.ensures (goes_on (optional_plain 1) c.in_ok-m.ensures (goes_on number_plain c.in_ok-k.ensures (goes_on number_plain c.in_ok-field.ensures p)))))))))
+
+pub returns-then-not-is_empty : goal.returns-then-not-is_empty
+returns-then-not-is_empty c =
+    unreadable (λ r p. let ends = goes_on listed_plain c.in_ok-word.ensures (goes_on listed_plain c.in_ok-points.ensures (goes_on number_plain c.in_ok-t.ensures (goes_on (optional_plain r.m) c.in_ok-l.ensures (goes_on (optional_plain 1) c.in_ok-m.ensures (goes_on number_plain c.in_ok-k.ensures (goes_on number_plain c.in_ok-field.ensures p)))))) in search (rules, tests))
 
 pub returns : goal.returns
 returns c =
