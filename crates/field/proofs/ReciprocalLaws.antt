@@ -29,13 +29,25 @@ module _ {p : ℕ} (l : Listed p) where
       let b = mod-lt 65536 {m = p} (omega (arith, l.large)) in
       omega (arith, a, b, l.small, div-add-mod 65536 p)
 
-  quotient : (z : ℕ) → z < reducible → z * (65536 / p + 1) / 65536 ≡ z / p
+  pub quotient : (z : ℕ) → z < reducible → z * (65536 / p + 1) / 65536 ≡ z / p
   quotient z h = quotient-by-shift z (omega (arith, l.large)) (omega (arith, reducible-low))
+
+  pub reciprocal-small : 65536 / p + 1 < 21848
+  reciprocal-small =
+      let a = mul-le-mul {n₁ = 3} {m₁ = 65536 / p} {n₂ = p} {m₂ = 65536 / p} (omega (arith, l.large)) (omega arith) in
+      omega (arith, a, div-add-mod 65536 p)
 
 module _ {p g z : ℕ} (r : Reduces p g z) where
   -- what is taken off z
   pub taken : {y h q : ℕ} → y ≡ z → h ≡ g → q ≡ p → y * h / 65536 * q ≡ z / p * p
   taken e f d = rw (e, f, d, r.reciprocal) (ap (λ x. x * p) (quotient r.size z r.low))
+
+-- a product of two symbols is reducible, and a third may be added to it
+pub small-product : (a b : ℕ) → a < 32 → b < 32 → a * b ≤ 961
+small-product a b h k = mul-le-mul {n₁ = a} {m₁ = b} {n₂ = 31} {m₂ = 31} (omega arith) (omega arith)
+
+pub reducible-product : (a b : ℕ) → a < 32 → b < 32 → a * b < reducible
+reducible-product a b h k = omega (arith, small-product a b h k)
 
 pub remainder : (z p : ℕ) → z - z / p * p ≡ z % p
 remainder z p = sym (mod-eq-sub-div-mul z p)

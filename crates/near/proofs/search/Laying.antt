@@ -3,11 +3,13 @@ use mathlib.Core.Path.{◌≡◌, ap, ◌∙◌}
 use mathlib.Core.Logic.{inr, inl}
 use mathlib.Core.List.{List}
 use Prim.Native.Nat.{ℕ, suc, ◌+◌, ◌-◌, ◌*◌, ◌≤◌, ◌<◌}
+use native.Mathlib.Nat.{mul-le-mul}
 use native.Mathlib.Omega.{arith}
 use lib.ListN.{length, get_or}
 use Rattle.field.specs.Field.{RingLaws}
 use Rattle.field.specs.Symbols.{symbol, symbols}
 use Rattle.field.proofs.SymbolLaws.{symbol-own, byte-below, symbols-field, zero-byte}
+use Rattle.poly.specs.Limits.{field_most, height_most}
 use Rattle.curves.specs.Curves.{Curve, Height, Under}
 use Rattle.rows.specs.Bytes.{slot, place, curve_bytes, HoldsCurve}
 use Rattle.rows.specs.Work.{Fine}
@@ -54,6 +56,11 @@ module _ {S : Shape} {xs : List ℕ} (laid : Laid S xs) where
     pub slice-byte : i * j ≤ v → j ≤ S.l → v - i * j ≤ S.width
         → (slice_of S xs i v j).byte ≡ get_or xs (j * slot S + (v - i * j)) 0
     slice-byte h g k = rw (slice-at laws i v (curve_of S xs) j h) (curve-byte g k)
+
+  -- the power of x that x^i y for y brings to slot j can be counted
+  pub lift-small : {i j : ℕ} → i ≤ S.u → j ≤ S.l → i * j ≤ field_most * height_most
+  lift-small {i} {j} h k = let a = laid.fine.lift in let b = laid.fine.high in
+      mul-le-mul {n₁ = i} {m₁ = j} {n₂ = field_most} {m₂ = height_most} (omega arith) (omega arith)
 
 -- bytes that hold a curve within these bounds are that curve
 module _ (S : Shape) (xs : List ℕ) (Q : Curve (symbols S.p).ring) (holds : HoldsCurve S xs Q)

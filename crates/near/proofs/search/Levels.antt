@@ -137,7 +137,7 @@ module _ {plan : Plan} {points word curve₀ chosen₀ : List ℕ} {left : ℕ} 
   abbrev i : ℕ
   i = plan.k - left
 
-  next-below : i ≤ plan.shape.u
+  pub next-below : i ≤ plan.shape.u
   next-below = let n = s.some in let m = s.most in let d = s.received.degree in omega arith
 
   next-up : plan.k - (left - 1) ≡ suc i

@@ -59,7 +59,7 @@ module _ {S : Shape} {xs : List ℕ} (b : Bytes S xs) {i : ℕ} (g : i ≤ S.l) 
       above j e h m (yes k) = k
       above j e h m (no k) = let z = block-end (slot S) {i = j} {k = t} (omega arith) in absurd (omega arith)
 
-  zero-height : ZeroBetween xs (i * curve_bytes S + t * slot S) (i * curve_bytes S + curve_bytes S)
+  pub zero-height : ZeroBetween xs (i * curve_bytes S + t * slot S) (i * curve_bytes S + curve_bytes S)
       → Height (symbols S.p).ring t (rows_of S xs i)
   zero-height z j e h =
       rows_of-null S xs g j e
