@@ -153,7 +153,7 @@ impl Search<'_> {
             return count;
         }
         let at = count * k;
-        messages[at..at + k].copy_from_slice(message);
+        poly::copy(&mut messages[at..at + k], message);
         count + 1
     }
 

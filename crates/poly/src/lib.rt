@@ -24,6 +24,16 @@ pub fn clear(xs: &mut [u8], len: usize)
     xs[..len].fill(0);
 }
 
+// The bytes of `to` become those of `from`. By a loop: with std's copy_from_slice an archive for C wants memmove from whoever links it.
+pub fn copy(to: &mut [u8], from: &[u8])
+    requires { length to.old ≡ length from.now }
+    ensures { to.new ≡ from.now }
+{
+    for i in 0..from.len() {
+        to[i] = from[i];
+    }
+}
+
 // The value at a, by Horner's rule.
 pub fn value_at(coefficients: &[u8], a: u8, p: u8) -> u8
     requires { Coefficients p a coefficients.now }

@@ -50,7 +50,7 @@ impl Rows<'_> {
         let len = shape.curve_bytes();
         let Light { row, weight } = light;
         let from = row * len;
-        curve[..len].copy_from_slice(&self.bytes[from..from + len]);
+        poly::copy(&mut curve[..len], &self.bytes[from..from + len]);
         let at = shape.place(row, row, weight - shape.u * row);
         let lead = Symbol {
             value: self.bytes[at],

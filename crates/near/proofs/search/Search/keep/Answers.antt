@@ -6,4 +6,4 @@ pub returns : goal.returns
 returns c =
     let s = c.args.self.now in
     let e = kept-one s.plan s.points.now s.word.now c.args.chosen.now c.agreements.ensures c.if-agreements-self.false in
-    wrote-one e (copied c.args.messages.now _ c.requires.spelt.long (room-one e c.requires.room) c.copy_from_slice.ensures.after)
+    wrote-one e (copied c.args.messages.now _ c.requires.spelt.long (room-one e c.requires.room) c.copy.ensures)
