@@ -1,9 +1,11 @@
 // Leading terms.
 ghost use Rattle.std.specs.Prelude.{◌+◌, ◌<◌, ◌≤◌, length};
 ghost use Rattle.curves.specs.Curves.{Zero, Lead};
-ghost use Rattle.rows.specs.Work.{DegreeTo, Heavier, FoundLead};
+ghost use Rattle.poly.specs.Buffers.{Decided};
+ghost use Rattle.rows.specs.Work.{DegreeTo, Heavier, FoundLead, ZeroBetween};
 
 use crate::view::Rows;
+use std::array;
 
 // A leading term, by its weight and its power of y.
 #[derive(Clone, Copy)]
@@ -12,12 +14,41 @@ pub struct LeadingTerm {
     pub power: usize,
 }
 
+// Whether the eight bytes from `from` on are zero, as one number.
+fn eight_zero(rows: &[u8], from: usize) -> bool
+    requires { from + 8 ≤ length rows.now }
+    ensures { Decided result (ZeroBetween rows.now from (from + 8)) }
+{
+    let word = array::from_fn(|i| rows[from + i]);
+    u64::from_le_bytes(word) == 0
+}
+
+// How many coefficients, of those to x^top that stand at `at`, are left when those above that are zero are taken off, eight at a time.
+fn size_at_most(rows: &[u8], at: usize, top: usize) -> usize
+    requires { at + top < length rows.now }
+    ensures { (result ≤ top + 1) × ZeroBetween rows.now (at + result) (at + top + 1) }
+{
+    let size = top + 1;
+    for i in 0..size / 8 {
+        let left = size - 8 * i;
+        if !eight_zero(rows, at + left - 8) {
+            return left;
+        }
+    }
+    size % 8
+}
+
 // The degree of the x-polynomial whose coefficients to x^top stand at `at`, unless they are all zero.
 pub fn degree_to(rows: &[u8], at: usize, top: usize) -> Option<usize>
     requires { at + top < length rows.now }
     ensures { DegreeTo rows.now at top result }
 {
-    rows[at..=at + top].iter().rposition(|x| *x != 0)
+    for degree in (0..size_at_most(rows, at, top)).rev() {
+        if rows[at + degree] != 0 {
+            return Some(degree);
+        }
+    }
+    None
 }
 
 // What was found, or the term where that weighs more.

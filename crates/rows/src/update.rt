@@ -22,7 +22,8 @@ pub struct Crossing {
 
 // `update` writes the rows, so their bytes are lent to it beside the shape, and no view holds them; so `ratio`, which it calls, takes them too.
 impl Crossing {
-    // The leading coefficient of row r over that of row s.
+    // The leading coefficient of row r over that of row s. Inlined, so that `vanishes` and `update` work out one inverse between them.
+    #[inline(always)]
     fn ratio(self, rows: &[u8], shape: Shape) -> Symbol
         requires { Crosses shape rows.now self.r self.w self.s self.v }
         ensures { result.value ≡ (leads_ratio shape rows.now self.r self.w self.s self.v).byte }

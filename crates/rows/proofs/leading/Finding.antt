@@ -1,14 +1,12 @@
 -- The search for a leading term, by falling powers of y: what was found down to y^j leads what stands from y^j on.
-use mathlib.Core.Path.{◌≡◌, refl, sym, ◌∙◌}
+use mathlib.Core.Path.{◌≡◌, refl}
 use mathlib.Core.Logic.{◌≢◌}
 use mathlib.Core.List.{List}
 use Prim.Native.Nat.{ℕ, zero, suc, ◌+◌, ◌-◌, ◌*◌, ◌≤◌, ◌<◌, zero-le}
 use native.Mathlib.Decide.{dec_le, ℕ_discrete}
 use native.Mathlib.Omega.{arith}
-use lib.ListN.{length, get_or}
+use lib.ListN.{get_or}
 use Rattle.std.specs.Prelude.{Option, Some, None, IsSome, MatchOption}
-use Rattle.std.specs.List.{between}
-use Rattle.std.proofs.lemmas.List.Edits.{length-between, get_or-between}
 use Rattle.field.specs.Field.{Ring}
 use Rattle.field.specs.Symbols.{symbol, symbols}
 use Rattle.curves.specs.Curves.{Curve, Zero, Lead, LeadsAt}
@@ -99,30 +97,6 @@ module _ (R : Ring) (u : ℕ) (Q : Curve R) where
     found-more None f first = takes (λ t i m l. f t i m)
     found-more (Some term) f (stays h) = keeps f (λ i l. above i (omega arith))
     found-more (Some term) f (taken h) = takes (λ t i m l. f.rest t i m (omega arith) (λ y. absurd (omega arith)))
-
--- the degree of what stands at `at`, by its last byte that is not zero
-module _ (xs : List ℕ) (at top : ℕ) (inside : at + top < length xs) where
-  abbrev part : List ℕ
-  part = between at (at + top + 1) xs
-
-  part-length : length part ≡ suc top
-  part-length = length-between xs at (at + top + 1) (omega arith) ∙ omega arith
-
-  part-at : (k : ℕ) → k ≤ top → get_or part k 0 ≡ get_or xs (at + k) 0
-  part-at k h = get_or-between xs at (at + top + 1) k 0 (omega arith)
-
-  pub degree-some : (d : ℕ) → d < length part → get_or part d 0 ≢ 0 → ((k : ℕ) → d + 1 ≤ k → k < length part → get_or part k 0 ≡ 0)
-      → IsDegree xs at top d
-  degree-some d low last above =
-      let n = part-length in
-      record {
-        within = omega arith;
-        above = λ i h k. sym (part-at i k) ∙ above i (omega arith) (omega arith);
-        nonzero = λ z. last (part-at d (omega arith) ∙ z);
-      }
-
-  pub degree-none : ((k : ℕ) → k < length part → get_or part k 0 ≡ 0) → (i : ℕ) → i ≤ top → get_or xs (at + i) 0 ≡ 0
-  degree-none all i k = let n = part-length in sym (part-at i k) ∙ all i (omega arith)
 
 -- the degree of a slot, said of the curve
 module _ {S : Shape} {xs : List ℕ} {i j : ℕ} (b : Bytes S xs) (light : LightRow S xs i) (g : i ≤ S.l) (h : j ≤ S.l) where
